@@ -1,0 +1,22 @@
+//! The lines of a text.
+ghost use Rattle.std.specs.Prelude.{◌≡◌, IfOk};
+ghost use Rattle.std.specs.Str.Lines.{lines};
+
+use crate::list::Items;
+use crate::memory::NoMemory;
+use crate::text::Name;
+use std::alloc::Global;
+
+/// The lines of a text. A line ends by LF, one CR right before the LF is dropped, and the last line may lack its LF;
+/// then a CR at its end stays. The empty text has no line.
+///
+/// Its only refusal is `NoMemory`.
+pub fn lines_of(alloc: Global, text: &str) -> Result<Items<Name>, NoMemory>
+    ensures { IfOk result (λ found. found ≡ lines text.now) }
+{
+    let mut found = Items::new(alloc);
+    for line in text.lines() {
+        found.push(alloc, Name::new(alloc, line)?)?;
+    }
+    Ok(found)
+}
