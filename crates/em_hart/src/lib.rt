@@ -1,13 +1,21 @@
-// A library with one function.
+//! One instruction of RV32I: the registers, the windows of memory, and the step that runs the word at the pc.
 #![tactic(auto)]
 
-ghost use Rattle.std.specs.Prelude.{◌≡◌};
-ghost use Rattle.em_hart.specs.Echo.{echo_of};
+mod accesses;
+pub mod answers;
+mod moves;
+pub mod operations;
+pub mod registers;
+pub mod stepping;
+pub mod widths;
+pub mod windows;
 
-// The `ensures` clause is the contract: what `echo` returns is `echo_of` of its argument, a definition
-// in `specs/Echo.antt`, which a caller's clause can cite too.
-pub fn echo(x: usize) -> usize
-    ensures { result ≡ echo_of x }
-{
-    x
-}
+pub use answers::{
+    BREAKPOINT, Class, MISALIGNED_DATA, MISALIGNED_TARGET, NO_INSTRUCTION, OUTSIDE_CODE,
+    OUTSIDE_WINDOWS, Stepped,
+};
+pub use operations::value;
+pub use registers::Regs;
+pub use stepping::step;
+pub use widths::Width;
+pub use windows::Window;

@@ -1,13 +1,15 @@
-// A library with one function.
+//! The outside as traits: what gives bytes, what takes bytes, and reading and writing all of them.
 #![tactic(auto)]
 
-ghost use Rattle.std.specs.Prelude.{◌≡◌};
-ghost use Rattle.em_io.specs.Echo.{echo_of};
+pub mod memory;
+pub mod sinks;
+pub mod sources;
+pub mod standard;
 
-// The `ensures` clause is the contract: what `echo` returns is `echo_of` of its argument, a definition
-// in `specs/Echo.antt`, which a caller's clause can cite too.
-pub fn echo(x: usize) -> usize
-    ensures { result ≡ echo_of x }
-{
-    x
-}
+pub use memory::{MemSink, MemSource};
+pub use sinks::{Sink, write_all};
+pub use sources::{Failed, INPUT_LIMIT, ReadError, Source, read_all};
+pub use standard::{StdSink, StdSource};
+
+#[cfg(test)]
+mod tests;

@@ -1,13 +1,17 @@
-// A library with one function.
+//! The instructions of RV32I: their fields, the words that they are written as, and the way back.
 #![tactic(auto)]
 
-ghost use Rattle.std.specs.Prelude.{◌≡◌};
-ghost use Rattle.em_isa.specs.Echo.{echo_of};
+pub mod decoder;
+pub mod encoder;
+mod fields;
+mod groups;
+pub mod instructions;
+mod opcodes;
+pub mod ranges;
+#[cfg(test)]
+mod tests;
 
-// The `ensures` clause is the contract: what `echo` returns is `echo_of` of its argument, a definition
-// in `specs/Echo.antt`, which a caller's clause can cite too.
-pub fn echo(x: usize) -> usize
-    ensures { result ≡ echo_of x }
-{
-    x
-}
+pub use decoder::decode;
+pub use encoder::encode;
+pub use instructions::Instr;
+pub use ranges::fits;

@@ -1,0 +1,6 @@
+pub mod Images
+pub mod Naming
+pub mod Operands
+pub mod Statements
+pub mod Trimming
+pub mod Words

@@ -1,0 +1,4 @@
+pub mod Registers
+pub mod Pieces
+pub mod Line
+pub mod Assembly

@@ -1,0 +1,10 @@
+//! The assembler: from the lines of an assembly text to the image that a machine starts from.
+#![tactic(auto)]
+
+pub mod assembling;
+pub mod pieces;
+pub mod reading;
+pub mod registers;
+
+pub use assembling::assemble;
+pub use reading::Item;

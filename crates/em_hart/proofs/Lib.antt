@@ -1,0 +1,10 @@
+pub mod Bytes
+pub mod Examples
+pub mod Execs
+pub mod Formats
+pub mod Naming
+pub mod Reported
+pub mod Same
+pub mod Signs
+pub mod Listed
+pub mod Words

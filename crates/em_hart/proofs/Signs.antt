@@ -1,0 +1,47 @@
+-- Signed and unsigned tests, masks and shifts as the language has them.
+use Rattle.std.proofs.Common.{◌≡◌, ℕ, ◌+◌, ◌-◌, ◌*◌, ◌/◌, ◌%◌, ◌^◌, ◌<◌, Bool, true, false, not, nat_lt, nat_le, bit_and, ℤ, pos, negsuc, refl, ap, ◌∙◌, arith}
+use Rattle.std.specs.Prelude.{int_lt, int_le, FitsSigned}
+use Rattle.std.specs.Int.{w32, cast_signed, cast_unsigned, int_shr, int_div_euclid}
+use Rattle.em_hart.specs.Effect.{sum}
+use Rattle.em_hart.specs.Decoded.{modulo}
+use Rattle.std.proofs.lemmas.Int.{of_z-to_z, to_z-of_z, ints}
+use Rattle.std.proofs.lemmas.Nat.{and_mask}
+use Rattle.std.proofs.lemmas.Nat.Bits.{and_high_mask}
+use Rattle.std.proofs.lemmas.Bool.Decides.{nat_tests}
+
+-- a number read as signed is one of the signed type
+pub signed_twice : (a : ℕ) → a < 2 ^ 32 → cast_signed w32 (cast_unsigned w32 (cast_signed w32 a)) ≡ cast_signed w32 a
+signed_twice a h = ap (cast_signed w32) (of_z-to_z w32 a h)
+
+pub not_below : (a b : ℕ) → not (nat_lt a b) ≡ nat_le b a
+not_below a b = grind (arith, nat_tests)
+
+pub not_below_signed : (x y : ℤ) → not (int_lt x y) ≡ int_le y x
+not_below_signed (pos a) (pos b) = not_below a b
+not_below_signed (pos a) (negsuc b) = refl
+not_below_signed (negsuc a) (pos b) = refl
+not_below_signed (negsuc a) (negsuc b) = not_below b a
+
+-- the low five bits
+pub low_five : (b : ℕ) → bit_and b 31 ≡ b % 32
+low_five b = and_mask b 5
+
+-- bit 0 cleared
+pub bit_cleared : (a : ℕ) → a < 2 ^ 32 → bit_and a 4294967294 ≡ a / 2 * 2
+bit_cleared a h = and_high_mask 32 1 (omega arith) a h
+
+-- a shift to the right that copies the sign is the quotient rounded down
+pub shifted_as_quotient : (x : ℤ) (n : ℕ) → int_shr x n ≡ int_div_euclid x (pos (2 ^ n))
+shifted_as_quotient (pos a) n = refl
+shifted_as_quotient (negsuc a) n = refl
+
+-- a signed number added to an address, as the language adds its bits
+pub moved : (p q x : ℕ) (z : ℤ) → FitsSigned w32 z → p ≡ q → x ≡ cast_unsigned w32 (cast_signed w32 (cast_unsigned w32 z)) → (p + x) % 2 ^ 32 ≡ sum q (modulo z)
+moved p q x z f e h =
+    ap (λ (k : ℕ). (k + x) % 2 ^ 32) e ∙ ap (λ (k : ℕ). (q + k) % 2 ^ 32) (h ∙ ap (cast_unsigned w32) (to_z-of_z w32 z f))
+
+-- an upper immediate added to an address
+pub upper_moved : (p q n : ℕ) → n < 2 ^ 20 → p ≡ q → (p + n * 4096 % 2 ^ 32) % 2 ^ 32 ≡ sum q (n * 2 ^ 12)
+upper_moved p q n l e =
+    let whole : n * 4096 % 2 ^ 32 ≡ n * 4096 = omega arith in
+    ap (λ (k : ℕ). (k + n * 4096 % 2 ^ 32) % 2 ^ 32) e ∙ ap (λ (k : ℕ). (q + k) % 2 ^ 32) whole

@@ -1,0 +1,46 @@
+-- A number that was put into bytes stands there, and the other numbers stand as before.
+use Rattle.std.proofs.Common.{◌≡◌, ◌≢◌, ℕ, ◌+◌, ◌-◌, ◌*◌, ◌/◌, ◌%◌, ◌^◌, ◌<◌, ◌≤◌, List, [], ◌∷◌, ◌++◌, length, take, drop, inl, inr, refl, sym, ap, subst, ◌∙◌, arith}
+use Rattle.std.proofs.lemmas.List.{append_assoc, take_at, drop_at, drop-drop, drop-take, take-take, drop-append-le, take-append-le, length-append, length-take-le, length-drop, length-take}
+use Rattle.std.proofs.lemmas.Bool.{cases_lt}
+use Rattle.em_hart.specs.Hart.{number_of, bytes_of, number_at, with_number}
+
+four_again : (w : ℕ) → w < 2 ^ 32 → number_of (bytes_of 4 w) ≡ w
+four_again w h = omega arith
+
+pub number_at-with_number_same : (bytes : List ℕ) (p w : ℕ) → p ≤ length bytes → w < 2 ^ 32 → number_at (with_number bytes 4 p w) 4 p ≡ w
+number_at-with_number_same bytes p w h l =
+    ap (λ (x : List ℕ). number_of (take 4 (drop p x))) (append_assoc (take p bytes) (bytes_of 4 w) (drop (p + 4) bytes))
+    ∙ ap (λ (x : List ℕ). number_of (take 4 x)) (drop_at (take p bytes) (bytes_of 4 w ++ drop (p + 4) bytes) p (length-take-le p bytes h))
+    ∙ ap number_of (take_at (bytes_of 4 w) (drop (p + 4) bytes) 4 refl)
+    ∙ four_again w l
+
+below : (bytes rest : List ℕ) (p q : ℕ) → q + 4 ≤ p → p ≤ length bytes → take 4 (drop q (take p bytes ++ rest)) ≡ take 4 (drop q bytes)
+below bytes rest p q h l =
+    let len : length (take p bytes) ≡ p = length-take-le p bytes l in
+    let e : q + (p - q) ≡ p = omega arith in
+    ap (take 4) (drop-append-le q (take p bytes) rest (omega arith))
+    ∙ take-append-le 4 (drop q (take p bytes)) rest (omega (arith, length-drop q (take p bytes)))
+    ∙ ap (λ (n : ℕ). take 4 (drop q (take n bytes))) (sym e)
+    ∙ ap (take 4) (drop-take q (p - q) bytes)
+    ∙ take-take 4 (p - q) (drop q bytes) (omega arith)
+
+above : (bytes front : List ℕ) (p q : ℕ) → length front ≡ p + 4 → p + 4 ≤ q → drop q (front ++ drop (p + 4) bytes) ≡ drop q bytes
+above bytes front p q l h =
+    let e : p + 4 + (q - (p + 4)) ≡ q = omega arith in
+    ap (λ (n : ℕ). drop n (front ++ drop (p + 4) bytes)) (sym e)
+    ∙ sym (drop-drop (q - (p + 4)) (p + 4) (front ++ drop (p + 4) bytes))
+    ∙ ap (drop (q - (p + 4))) (drop_at front (drop (p + 4) bytes) (p + 4) l)
+    ∙ drop-drop (q - (p + 4)) (p + 4) bytes
+    ∙ ap (λ (n : ℕ). drop n bytes) e
+
+pub number_at-with_number_other : (bytes : List ℕ) (i j w : ℕ) → j ≢ i → 4 * i + 4 ≤ length bytes
+    → number_at (with_number bytes 4 (4 * i) w) 4 (4 * j) ≡ number_at bytes 4 (4 * j)
+number_at-with_number_other bytes i j w n h =
+    let p = 4 * i in
+    let front = take p bytes ++ bytes_of 4 w in
+    let len : length front ≡ p + 4 = omega (arith, length-append (take p bytes) (bytes_of 4 w), length-take-le p bytes (omega arith)) in
+    elim (cases_lt j i)
+    [ inl l ↦
+        ap (λ (x : List ℕ). number_of (take 4 (drop (4 * j) x))) (append_assoc (take p bytes) (bytes_of 4 w) (drop (p + 4) bytes))
+        ∙ ap number_of (below bytes (bytes_of 4 w ++ drop (p + 4) bytes) p (4 * j) (omega arith) (omega arith))
+    | inr g ↦ ap (λ (x : List ℕ). number_of (take 4 x)) (above bytes front p (4 * j) len (omega arith)) ]

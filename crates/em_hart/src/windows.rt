@@ -1,0 +1,161 @@
+//! A window of memory: bytes from an address on.
+ghost use Rattle.std.specs.Prelude.{◌≡◌, ◌≢◌, ℕ, ◌+◌, ◌-◌, ◌*◌, ◌/◌, ◌%◌, ◌^◌, ◌<◌, ◌≤◌, ◌++◌, replicate, IsTrue, IsFalse, IfSome, IfNone, IfOk, length as len, vec_len};
+ghost use Rattle.std.specs.List.{flat_map};
+ghost use Rattle.em_hart.specs.Hart.{bytes_of, number_at, with_number, has_bytes};
+ghost use Rattle.em_hart.specs.Widths.{bytes_in};
+
+use crate::widths::Width;
+use em_base::NoMemory;
+use std::alloc::{AllocError, Global};
+use std::marker::Model;
+
+/// A window of memory, of at most 65,536 bytes. Contracts see it as the address where it begins and the list of its
+/// bytes. Numbers stand in it little-endian.
+#[derive(Drop)]
+pub struct Window {
+    base: u32,
+    bytes: Vec<u8>,
+}
+
+impl Model for Window {
+    ghost use Rattle.std.specs.Prelude.{◌≤◌, length};
+    ghost use Rattle.em_hart.specs.Hart.{Memory};
+
+    ghost Value = { Memory };
+
+    ghost view = { λ a. record { base = a.base; bytes = a.bytes.items } };
+
+    ghost invariant = { λ a. length a.bytes.items ≤ 65536 };
+}
+
+/// The bytes of the words, one word after the other, and then zeros up to the length.
+fn filled(alloc: Global, first: &[u32], length: u32) -> Result<Vec<u8>, AllocError>
+    requires { 4 * len first.now ≤ length }
+    ensures items { IfOk result (λ v. v.items ≡ flat_map (bytes_of 4) first.now ++ replicate (length - 4 * len first.now) 0) }
+    ensures length { IfOk result (λ v. vec_len v ≡ length) }
+{
+    let mut bytes = Vec::with_capacity(alloc, length as usize)?;
+    for word in first {
+        bytes.extend_from_slice(&word.to_le_bytes())?;
+    }
+    bytes.resize(length as usize, 0)?;
+    Ok(bytes)
+}
+
+/// Puts the lowest bytes of a number at a place of the bytes.
+fn put_number(bytes: &mut [u8], width: Width, place: usize, number: u32)
+    requires { place + bytes_in width ≤ len bytes.old }
+    ensures whole { bytes.new ≡ with_number bytes.old (bytes_in width) place number }
+    ensures length { len bytes.new ≡ len bytes.old }
+{
+    let [b0, b1, b2, b3] = number.to_le_bytes();
+    match width {
+        Width::Byte => bytes[place] = b0,
+        Width::Half => {
+            bytes[place] = b0;
+            bytes[place + 1] = b1;
+        }
+        Width::Word => {
+            bytes[place] = b0;
+            bytes[place + 1] = b1;
+            bytes[place + 2] = b2;
+            bytes[place + 3] = b3;
+        }
+    }
+}
+
+impl Window {
+    /// A window of `length` bytes from the address `base` on. It begins with the words of `first`, and the rest is zero.
+    /// `length` is a multiple of 4, at most 65,536, and at least four times the number of words. Its only refusal is
+    /// `NoMemory`.
+    pub fn new(alloc: Global, base: u32, first: &[u32], length: u32) -> Result<Window, NoMemory>
+        requires whole { length % 4 ≡ 0 }
+        requires limit { length ≤ 65536 }
+        requires room { 4 * len first.now ≤ length }
+        ensures { IfOk result (λ window. window ≡ record {
+            base = base;
+            bytes = flat_map (bytes_of 4) first.now ++ replicate (length - 4 * len first.now) 0;
+        }) }
+    {
+        match filled(alloc, first, length) {
+            Ok(bytes) => Ok(Window { base, bytes }),
+            Err(_) => Err(NoMemory),
+        }
+    }
+
+    /// The number of its bytes.
+    pub fn length(&self) -> u32
+        ensures length { result ≡ len self.now.bytes }
+        ensures limit { result ≤ 65536 }
+    {
+        self.bytes.len() as u32
+    }
+
+    /// The word `i` of the window, counted from 0; `i` is below a quarter of the length.
+    pub fn word_at(&self, i: u32) -> u32
+        requires { i < len self.now.bytes / 4 }
+        ensures { result ≡ number_at self.now.bytes 4 (4 * i) }
+    {
+        self.number(Width::Word, i as usize * 4)
+    }
+
+    /// Puts a word in place of the word `i`, counted from 0; `i` is below a quarter of the length.
+    pub fn set_word(&mut self, i: u32, w: u32)
+        requires { i < len self.old.bytes / 4 }
+        ensures whole { self.new ≡ record self.old { bytes = with_number self.old.bytes 4 (4 * i) w } }
+
+        // The same, word by word.
+        ensures written { number_at self.new.bytes 4 (4 * i) ≡ w }
+        ensures others { (j : ℕ) → j ≢ i
+            → number_at self.new.bytes 4 (4 * j) ≡ number_at self.old.bytes 4 (4 * j) }
+        ensures base { self.new.base ≡ self.old.base }
+        ensures length { len self.new.bytes ≡ len self.old.bytes }
+    {
+        self.put(Width::Word, i as usize * 4, w);
+    }
+
+    /// Where in the window the bytes of an access at an address stand; `None` exactly where they are not wholly inside.
+    pub fn place(&self, width: Width, address: u32) -> Option<usize>
+        ensures found { IfSome result (λ place. IsTrue (has_bytes self.now (bytes_in width) address)) }
+        ensures value { IfSome result (λ place. place ≡ address - self.now.base) }
+        ensures within { IfSome result (λ place. place + bytes_in width ≤ len self.now.bytes) }
+        ensures outside { IfNone result (IsFalse (has_bytes self.now (bytes_in width) address)) }
+    {
+        let place = address.checked_sub(self.base)? as usize;
+        if place + width.bytes() as usize <= self.bytes.len() {
+            Some(place)
+        } else {
+            None
+        }
+    }
+
+    /// The number that stands at a place, without a sign.
+    pub fn number(&self, width: Width, place: usize) -> u32
+        requires { place + bytes_in width ≤ len self.now.bytes }
+        ensures number { result ≡ number_at self.now.bytes (bytes_in width) place }
+        ensures small { result < 2 ^ (8 * bytes_in width) }
+    {
+        let bytes = self.bytes.as_slice();
+        match width {
+            Width::Byte => u32::from(bytes[place]),
+            Width::Half => u32::from(u16::from_le_bytes([bytes[place], bytes[place + 1]])),
+            Width::Word => u32::from_le_bytes([
+                bytes[place],
+                bytes[place + 1],
+                bytes[place + 2],
+                bytes[place + 3],
+            ]),
+        }
+    }
+
+    /// Puts the lowest bytes of a number at a place.
+    pub fn put(&mut self, width: Width, place: usize, number: u32)
+        requires { place + bytes_in width ≤ len self.old.bytes }
+        ensures whole { self.new
+            ≡ record self.old { bytes = with_number self.old.bytes (bytes_in width) place number } }
+        ensures base { self.new.base ≡ self.old.base }
+        ensures length { len self.new.bytes ≡ len self.old.bytes }
+    {
+        put_number(self.bytes.as_mut_slice(), width, place, number);
+    }
+}

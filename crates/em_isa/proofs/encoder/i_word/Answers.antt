@@ -1,0 +1,5 @@
+use Rattle.em_isa.proofs.Joined.{i_joined}
+use Rattle.em_isa.proofs.encoder.i_word.Goals as goal
+
+pub returns : goal.returns
+returns c = i_joined _ _ _ _ _ c.requires.imm c.requires.rs1 c.requires.funct3 c.requires.rd c.requires.opcode

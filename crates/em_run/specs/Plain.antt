@@ -1,0 +1,112 @@
+-- The plain machine of one task, numbered 0, and its run: this project's own, over the meaning of one instruction.
+use Rattle.std.specs.Prelude.{ℕ, zero, suc, ◌+◌, ◌*◌, Bool, true, false, not, ◌&&◌, nat_lt, List, [], ◌∷◌, ◌++◌, length, replicate, slice_set, Option, None, if◌then◌else◌}
+use Rattle.em_base.specs.declared.ids.TaskId.{TaskId}
+use Rattle.em_base.specs.declared.ids.PortId.{PortId}
+use Rattle.em_hart.specs.Hart.{Registers, Memory, with_register}
+use Rattle.em_hart.specs.Instruction.{Outcome, Ran, Call, Fault, exec}
+use Rattle.em_run.specs.declared.trace.Line.{Line}
+use Rattle.em_run.specs.declared.trace.Line.TheVariants.{Rel, Out, Refused, Faulted, Exited}
+use Rattle.em_run.specs.Calls.{CallOutcome, Refuses, Puts, Exits, call_number, call_outcome, registers_after}
+
+-- a state: the task's registers and own window, whether it is stopped, the shared window, the values that the ports show,
+-- and the lines so far
+pub record Plain : Type 0 where
+  pub registers : Registers
+  pub own : Memory
+  pub shared : Memory
+  pub stopped : Bool
+  pub ports : List ℕ
+  pub lines : List Line
+
+abbrev pub task : TaskId
+task = record { 0 = 0 }
+
+-- where the windows stand, and how long the own window is
+abbrev pub own_base : ℕ
+own_base = 0x10000000
+
+abbrev pub shared_base : ℕ
+shared_base = 0x20000000
+
+abbrev pub own_length : ℕ
+own_length = 1024
+
+-- the task at address 0 with every register 0, its own window all zero, no shared window, and eight ports that show 0
+abbrev pub boot : Plain
+boot = record {
+  registers = record { values = replicate 32 0; pc = 0 };
+  own = record { base = own_base; bytes = replicate own_length 0 };
+  shared = record { base = shared_base; bytes = [] };
+  stopped = false;
+  ports = replicate 8 0;
+  lines = [];
+}
+
+-- the task is released with its first job, at a time and with a word, which goes to a0
+abbrev pub released : ℕ → ℕ → Plain → Plain
+released time word p =
+    record p { registers = with_register p.registers 10 word; lines = p.lines ++ Rel task 1 time word ∷ [] }
+
+-- ---- one step
+
+-- the line of a call, by its number
+abbrev pub call_line : CallOutcome → ℕ → Line
+call_line (Refuses code) number = Refused task number code
+call_line (Puts port word) number = Out task (record { 0 = port }) word word
+call_line Exits number = Exited task
+
+-- the ports after a call: each port latches the word that it takes
+abbrev pub ports_after : CallOutcome → List ℕ → List ℕ
+ports_after (Refuses code) ports = ports
+ports_after (Puts port word) ports = slice_set ports port word
+ports_after Exits ports = ports
+
+-- whether the task is stopped after a call
+abbrev pub stops : CallOutcome → Bool
+stops (Refuses code) = false
+stops (Puts port word) = false
+stops Exits = true
+
+-- the state after a call that comes to an outcome
+abbrev pub after_call : CallOutcome → Plain → Plain
+after_call outcome p = record {
+  registers = registers_after outcome p.registers;
+  own = p.own;
+  shared = p.shared;
+  stopped = stops outcome;
+  ports = ports_after outcome p.ports;
+  lines = p.lines ++ call_line outcome (call_number p.registers) ∷ [];
+}
+
+-- the state after an instruction that came to an outcome: a call is carried out, and a fault stops the task
+unfoldable pub after_instruction : Outcome → Plain → Plain
+after_instruction (Ran class registers own shared) p = record p { registers = registers; own = own; shared = shared }
+after_instruction Call p = after_call (call_outcome p.registers) p
+after_instruction (Fault cause) p =
+    record p { stopped = true; lines = p.lines ++ Faulted task cause p.registers.pc None ∷ [] }
+
+-- one step of the task over the code
+abbrev pub step : List ℕ → Plain → Plain
+step code p = after_instruction (exec p.registers p.own p.shared code) p
+
+-- ---- a run
+
+-- the most steps of a run, and the most lines of its trace
+abbrev pub most_steps : ℕ
+most_steps = 20000000
+
+abbrev pub most_lines : ℕ
+most_lines = 1000000
+
+-- there is a next step: the task isn't stopped and the trace isn't full
+abbrev pub goes_on : Plain → Bool
+goes_on p = not p.stopped && nat_lt (length p.lines) most_lines
+
+-- the state after at most so many steps
+unfoldable pub steps : List ℕ → ℕ → Plain → Plain
+steps code zero p = p
+steps code (suc n) p = if goes_on p then steps code n (step code p) else p
+
+-- the trace of the code: the lines of the run of the task, which is released once, at time 0 with the word 0
+abbrev pub trace_of : List ℕ → List Line
+trace_of code = (steps code most_steps (released 0 0 boot)).lines

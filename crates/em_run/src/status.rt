@@ -1,0 +1,39 @@
+//! How a call of the program ends.
+ghost use Rattle.std.specs.Prelude.{◌≡◌};
+ghost use Rattle.em_run.specs.Statuses.{number_of};
+
+/// How a call of the program ends. Each but [`Status::WriteFault`] has its text, which was then written whole.
+#[derive(Clone, Copy, Debug, PartialEq, Eq)]
+pub enum Status {
+    /// The command was carried out and its output written.
+    Done,
+    /// The words are no command.
+    Usage,
+    /// The source failed.
+    ReadFault,
+    /// The sink failed; the first part of the text that was due may have been written.
+    WriteFault,
+    /// The input is longer than the limit.
+    TooLong,
+    /// The input is refused, at a line that the text names.
+    Malformed,
+    /// Memory could not be had.
+    NoMemory,
+}
+
+impl Status {
+    /// The number with which the program ends.
+    pub fn number(self) -> u8
+        ensures { result ≡ number_of self }
+    {
+        match self {
+            Status::Done => 0,
+            Status::Usage => 1,
+            Status::ReadFault => 2,
+            Status::WriteFault => 3,
+            Status::TooLong => 4,
+            Status::Malformed => 5,
+            Status::NoMemory => 9,
+        }
+    }
+}
