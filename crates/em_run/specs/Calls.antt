@@ -31,11 +31,15 @@ operand registers = register registers 10
 abbrev pub second_operand : Registers → ℕ
 second_operand registers = register registers 11
 
--- out is call 4, on the ports 0 to 7; exit is call 8
-unfoldable pub call_outcome : Registers → CallOutcome
+-- out puts the word a1 to the port a0, which is one of 0 to 7
+abbrev pub out_outcome : Registers → CallOutcome
+out_outcome registers =
+    if nat_lt (operand registers) 8 then Puts (operand registers) (second_operand registers) else Refuses E_ARG
+
+-- out is call 4, exit is call 8
+abbrev pub call_outcome : Registers → CallOutcome
 call_outcome registers =
-    if call_number registers == 4
-    then (if nat_lt (operand registers) 8 then Puts (operand registers) (second_operand registers) else Refuses E_ARG)
+    if call_number registers == 4 then out_outcome registers
     else if call_number registers == 8 then Exits
     else Refuses E_CALL
 
@@ -45,7 +49,7 @@ answered registers answer =
     with_pc (with_register registers 10 answer) (sum registers.pc 4)
 
 -- the registers after a call: a refusal answers its code modulo 2^32, out answers 0, and exit stays at the call
-unfoldable pub registers_after : CallOutcome → Registers → Registers
+abbrev pub registers_after : CallOutcome → Registers → Registers
 registers_after (Refuses code) registers = answered registers (cast_unsigned w32 code)
 registers_after (Puts port word) registers = answered registers 0
 registers_after Exits registers = registers

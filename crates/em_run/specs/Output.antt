@@ -1,5 +1,5 @@
 -- What the program answers and writes, by its words and by what it read: this project's own.
-use Rattle.std.specs.Prelude.{◌≡◌, ◌≢◌, ℕ, ◌+◌, ◌≤◌, ⊥, List, [], ◌∷◌, ◌++◌, length, Option, codes}
+use Rattle.std.specs.Prelude.{◌≡◌, ◌≢◌, ℕ, ◌+◌, ◌≤◌, List, [], ◌∷◌, ◌++◌, length, Option, codes}
 use Rattle.std.specs.Fmt.{decimal}
 use Rattle.em_io.specs.Bytes.{input_limit, Rose, then_left, IsAtEnd, Took}
 use Rattle.em_run.specs.declared.status.Status.{Status}

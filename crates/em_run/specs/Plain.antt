@@ -62,10 +62,10 @@ ports_after (Puts port word) ports = slice_set ports port word
 ports_after Exits ports = ports
 
 -- whether the task is stopped after a call
-abbrev pub stops : CallOutcome → Bool
-stops (Refuses code) = false
-stops (Puts port word) = false
-stops Exits = true
+abbrev pub stopped_after : CallOutcome → Bool → Bool
+stopped_after (Refuses code) stopped = stopped
+stopped_after (Puts port word) stopped = stopped
+stopped_after Exits stopped = true
 
 -- the state after a call that comes to an outcome
 abbrev pub after_call : CallOutcome → Plain → Plain
@@ -73,13 +73,13 @@ after_call outcome p = record {
   registers = registers_after outcome p.registers;
   own = p.own;
   shared = p.shared;
-  stopped = stops outcome;
+  stopped = stopped_after outcome p.stopped;
   ports = ports_after outcome p.ports;
   lines = p.lines ++ call_line outcome (call_number p.registers) ∷ [];
 }
 
 -- the state after an instruction that came to an outcome: a call is carried out, and a fault stops the task
-unfoldable pub after_instruction : Outcome → Plain → Plain
+abbrev pub after_instruction : Outcome → Plain → Plain
 after_instruction (Ran class registers own shared) p = record p { registers = registers; own = own; shared = shared }
 after_instruction Call p = after_call (call_outcome p.registers) p
 after_instruction (Fault cause) p =

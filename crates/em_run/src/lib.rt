@@ -9,5 +9,5 @@ pub mod top;
 pub mod trace;
 
 pub use status::Status;
-pub use top::emeralds;
+
 pub use trace::{Line, print_trace};

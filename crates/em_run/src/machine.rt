@@ -1,7 +1,8 @@
 //! The machine of one task: its registers and windows, the ports, and the trace of what it does.
 ghost use Rattle.std.specs.Prelude.{◌≡◌, ◌<◌, ◌≤◌, ◌++◌, ◌∷◌, [], List, length, IfOk, OnOk, OnErr};
-ghost use Rattle.em_run.specs.Calls.{CallOutcome};
-ghost use Rattle.em_run.specs.Plain.{Plain, boot, released, step, steps, goes_on, most_steps, most_lines, trace_of};
+ghost use Rattle.em_hart.specs.Instruction.{Call, Fault};
+ghost use Rattle.em_run.specs.Calls.{Refuses, Exits, call_number, out_outcome, answered};
+ghost use Rattle.em_run.specs.Plain.{boot, released, step, goes_on, trace_of, after_call, after_instruction};
 
 use crate::trace::Line;
 use em_base::{Items, NoMemory, PortId, TaskId};
@@ -55,9 +56,9 @@ pub fn run(alloc: Global, code: &[u32]) -> Result<Items<Line>, NoMemory>
 {
     let mut machine = Machine::new(alloc)?;
     machine.release(alloc, 0, 0)?;
-    for _ in 0..MOST_STEPS {
+    'steps: for _ in 0..MOST_STEPS {
         if !machine.goes_on() {
-            break;
+            return Ok(machine.lines);
         }
         machine.step(alloc, code)?;
     }
@@ -113,5 +114,80 @@ impl Machine {
             Stepped::Call => self.call(alloc),
             Stepped::Fault(cause) => self.fault(alloc, cause, pc),
         }
+    }
+
+    /// Carries out the kernel call at the program counter.
+    fn call(&mut self, alloc: Global) -> Result<(), NoMemory>
+        ensures { OnOk result (state_of self.new ≡ after_instruction Call (state_of self.old)) }
+    {
+        let number = self.registers.get(17);
+        match number {
+            4 => self.out(alloc, number),
+            8 => self.exit(alloc),
+            _ => self.refuse(alloc, number, E_CALL),
+        }
+    }
+
+    /// The call out, which has this number: the port a0 takes the word a1.
+    fn out(&mut self, alloc: Global, number: u32) -> Result<(), NoMemory>
+        requires { number ≡ call_number self.old.registers }
+        ensures { OnOk result (state_of self.new ≡ after_call (out_outcome self.old.registers) (state_of self.old)) }
+    {
+        let port = self.registers.get(10);
+        let word = self.registers.get(11);
+        if port >= 8 {
+            return self.refuse(alloc, number, E_ARG);
+        }
+        self.ports[port as usize] = word;
+        self.answer(0);
+        self.lines.push(alloc, Line::Out {
+            task: TASK,
+            port: PortId(port as u8),
+            word,
+            value: word,
+        })
+    }
+
+    /// The call exit: the task is stopped.
+    fn exit(&mut self, alloc: Global) -> Result<(), NoMemory>
+        ensures { OnOk result (state_of self.new ≡ after_call Exits (state_of self.old)) }
+    {
+        self.stopped = true;
+        self.lines.push(alloc, Line::Exited { task: TASK })
+    }
+
+    /// Refuses a call with a code.
+    fn refuse(&mut self, alloc: Global, call: u32, code: i8) -> Result<(), NoMemory>
+        requires { call ≡ call_number self.old.registers }
+        ensures { OnOk result (state_of self.new ≡ after_call (Refuses code) (state_of self.old)) }
+    {
+        self.answer(i32::from(code).cast_unsigned());
+        self.lines.push(alloc, Line::Refused {
+            task: TASK,
+            call,
+            code,
+        })
+    }
+
+    /// Puts an answer into a0, and moves on to the instruction after the call.
+    fn answer(&mut self, answer: u32)
+        ensures { self.new ≡ record self.old { registers = answered self.old.registers answer } }
+    {
+        self.registers.set(10, answer);
+        self.registers.jump(self.registers.pc().wrapping_add(4));
+    }
+
+    /// Stops the task, for an instruction that faulted at an address.
+    fn fault(&mut self, alloc: Global, cause: u8, pc: u32) -> Result<(), NoMemory>
+        requires { pc ≡ self.old.registers.pc }
+        ensures { OnOk result (state_of self.new ≡ after_instruction (Fault cause) (state_of self.old)) }
+    {
+        self.stopped = true;
+        self.lines.push(alloc, Line::Faulted {
+            task: TASK,
+            cause,
+            pc,
+            sem: None,
+        })
     }
 }

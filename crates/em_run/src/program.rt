@@ -1,0 +1,1 @@
+//! The program that the bytes of an input stand for.
