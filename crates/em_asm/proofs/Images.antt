@@ -1,5 +1,5 @@
 -- Words, line after line.
-use Rattle.std.proofs.Common.{◌≡◌, ℕ, zero, suc, ◌+◌, ◌<◌, ◌≤◌, List, [], ◌∷◌, ◌++◌, length, take, get_or, Option, Some, None, refl, sym, ap, subst, ◌∙◌, arith, add-one, append_assoc, append-nil, length-append}
+use Rattle.std.proofs.Common.{◌≡◌, ℕ, ◌+◌, ◌<◌, ◌≤◌, List, [], ◌∷◌, ◌++◌, length, take, get_or, Some, None, refl, sym, ap, subst, ◌∙◌, arith, add-one, append-nil, length-append}
 use Rattle.std.proofs.Math.Seq.{take-suc}
 use Rattle.std.proofs.lemmas.Grind.{flat_map-append}
 use Rattle.std.specs.List.{flat_map}
@@ -34,16 +34,17 @@ words-next lines words new place line item h here so_far s few e =
 pub refused-too_many : (lines : List (List ℕ)) (words : List ℕ) (first place : ℕ) (line : List ℕ) (item : Item) (refusal : Refusal) (fail : Fail) → place < length lines → line ≡ get_or lines place [] → AreWordsOf (take place lines) words
     → ((other : Item) → StandsFor line other → Some item ≡ Some other) → refusal ≡ record { code = 60; line = first + place } → IsTooMany (length words + length (words_of item)) refusal fail → IsRefusalOf lines first fail
 refused-too_many lines words first place line item refusal NoMemory h here so_far only r t = tt
-refused-too_many lines words first place line item refusal (Refused found) h here so_far only r t =
-    (place,
-     record {
-       within = h;
-       words = words;
-       before = so_far;
-       refused = λ other s. too_many other (only other (subst (λ l. StandsFor l other) (sym here) s));
-     },
-     ap (λ f. f.code) (t.0 ∙ r),
-     ap (λ f. f.line) (t.0 ∙ r))
+refused-too_many lines words first place line item refusal (Refused found) h here so_far only r t = (
+  place,
+  record {
+    within = h;
+    words = words;
+    before = so_far;
+    refused = λ other s. too_many other (only other (subst (λ l. StandsFor l other) (sym here) s));
+  },
+  ap (λ f. f.code) (t.0 ∙ r),
+  ap (λ f. f.line) (t.0 ∙ r),
+)
   where
     too_many : (other : Item) → Some item ≡ Some other → most_words < length words + length (words_of other)
     too_many other e = let same : item ≡ other = cc in subst (λ i. most_words < length words + length (words_of i)) same t.1

@@ -1,5 +1,8 @@
+pub mod Ascii
 pub mod Images
+pub mod Meanings
 pub mod Naming
+pub mod Numerals
 pub mod Operands
 pub mod Statements
 pub mod Trimming

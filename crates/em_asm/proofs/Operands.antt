@@ -1,15 +1,14 @@
 -- The operands of a `li` statement, found and found alone.
-use mathlib.Core.Bool.{◌&&◌, ◌||◌}
-use Rattle.std.proofs.Common.{◌≡◌, ℕ, suc, ◌+◌, ◌-◌, ◌<◌, ◌≤◌, Bool, true, false, not, cond, List, [], ◌∷◌, ◌++◌, length, take, drop, reverse, refl, sym, ap, ap₂, subst, ◌∙◌, arith, append_assoc, append-nil, length-append, codes, get_or, nat_eq}
-use Rattle.std.proofs.Math.Seq.{drop-append_seam, take-append_seam}
+use mathlib.Core.Bool.{◌||◌}
+use Rattle.std.proofs.Common.{◌≡◌, ℕ, ◌+◌, ◌-◌, ◌<◌, Bool, true, false, not, List, [], ◌∷◌, ◌++◌, length, take, drop, refl, sym, ap, ◌∙◌, arith, append_assoc, append-nil, length-append, codes, get_or}
+use Rattle.std.proofs.Math.Seq.{take-append_seam}
 use Rattle.std.proofs.lemmas.Bool.Decides.{nat_tests}
-use Rattle.std.proofs.lemmas.List.Folds.{list_all-append}
 use Rattle.std.proofs.lemmas.List.Sums.{split_at_first, passes_at_first}
 use Rattle.std.proofs.Math.Seq.{drop-append-add}
 use Rattle.std.specs.List.{list_all, prefix_len, suffix_len, position_or_len, before_first, after_first}
 use Rattle.em_asm.specs.Pieces.{is_space, is_comma, IsWord, trimmed, unindented}
 use Rattle.em_asm.specs.Line.{IsBlank, Pads, AreLoadOperands}
-use Rattle.em_asm.proofs.Trimming.{both, both_are, Cut, cut, BackCut, cut_back, drop-front, take-back, nothing_left, suffix_len-ended, prefix_len-to_mark, prefix_len-none, prefix_len-stopped}
+use Rattle.em_asm.proofs.Trimming.{both, both_are, list_all-weaker, list_all-joined, cut, cut_back, drop-front, take-back, nothing_left, suffix_len-ended, prefix_len-to_mark, prefix_len-none, prefix_len-stopped}
 
 -- ---- trimming at spaces and tabs
 
@@ -66,7 +65,7 @@ pub blank-trimmed : (text : List ℕ) → trimmed text ≡ [] → IsBlank text
 blank-trimmed text e =
     let p = pads-trimmed text in
     let shape : text ≡ p.front ++ p.back = p.split ∙ ap (λ t. p.front ++ t ++ p.back) e ∙ ap (λ t. t ++ p.back) (append-nil p.front) in
-    ap (list_all is_space) shape ∙ list_all-append is_space p.front p.back ∙ both_are (list_all is_space p.front) (list_all is_space p.back) p.front_blank p.back_blank
+    ap (list_all is_space) shape ∙ list_all-joined is_space p.front p.back p.front_blank p.back_blank
 
 pub tight-word : (word : List ℕ) → IsWord word → IsTight word
 tight-word word h = record {
@@ -102,8 +101,8 @@ operands-from_found text name digits f =
     let inner : unindented right ≡ c.rest = ap (λ t. drop (prefix_len is_space t) t) c.split ∙ drop-front is_space c.front c.rest c.passes c.stops in
     let left_is : left ≡ p.front ++ name ++ p.back = p.split ∙ ap (λ t. p.front ++ t ++ p.back) f.name_is in
     let right_is : right ≡ c.front ++ digits = c.split ∙ ap (λ t. c.front ++ t) (sym inner ∙ f.digits_are) in
-    let rest_is : f.rest ≡ (p.front ++ name ++ p.back) ++ (44 ∷ (c.front ++ digits)) = 
-        at ∙ ap (λ l. l ++ (mark ∷ right)) left_is ∙ ap (λ m. (p.front ++ name ++ p.back) ++ (m ∷ right)) here ∙ ap (λ r. (p.front ++ name ++ p.back) ++ (44 ∷ r)) right_is in
+    let rest_is : f.rest ≡ (p.front ++ name ++ p.back) ++ (44 ∷ (c.front ++ digits)) =
+    at ∙ ap (λ l. l ++ (mark ∷ right)) left_is ∙ ap (λ m. (p.front ++ name ++ p.back) ++ (m ∷ right)) here ∙ ap (λ r. (p.front ++ name ++ p.back) ++ (44 ∷ r)) right_is in
     record {
       gap = f.first ∷ p.front;
       before = p.back;
@@ -115,13 +114,6 @@ operands-from_found text name digits f =
       split = f.split ∙ ap (λ t. codes "li" ++ (f.first ∷ t)) (rest_is ∙ sym (append_assoc (p.front ++ name ++ p.back) (codes ",") (c.front ++ digits)));
     }
 
--- no commas in a list whose elements are all of a kind that is no comma
-no_commas : (q : ℕ → Bool) (text : List ℕ) → ((byte : ℕ) → q byte ≡ true → not (is_comma byte) ≡ true) → list_all q text ≡ true → list_all (λ byte. not (is_comma byte)) text ≡ true
-no_commas q [] other h = refl
-no_commas q (x ∷ xs) other h =
-    let b = both (q x) (list_all q xs) h in
-    both_are (not (is_comma x)) (list_all (λ byte. not (is_comma byte)) xs) (other x b.0) (no_commas q xs other b.1)
-
 found_after_gap : (text name digits gap before after : List ℕ) → IsWord name → IsWord digits → IsBlank gap → IsBlank before → IsBlank after → 0 < length gap
     → text ≡ codes "li" ++ (gap ++ name ++ before) ++ codes "," ++ (after ++ digits) → Found text name digits
 found_after_gap text name digits [] before after n d gb bb ab some e = absurd (omega arith)
@@ -131,9 +123,9 @@ found_after_gap text name digits (g ∷ gs) before after n d gb bb ab some e =
     let back = after ++ digits in
     let gap_is = both (is_space g) (list_all is_space gs) gb in
     let clear : list_all p front ≡ true =
-        list_all-append p (gs ++ name) before ∙ both_are (list_all p (gs ++ name)) (list_all p before)
-            (list_all-append p gs name ∙ both_are (list_all p gs) (list_all p name) (no_commas is_space gs no_comma_space gap_is.1) (no_commas (λ byte. not (is_space byte || is_comma byte)) name no_comma_plain n.plain))
-            (no_commas is_space before no_comma_space bb) in
+    list_all-joined p (gs ++ name) before
+    (list_all-joined p gs name (list_all-weaker is_space p gs no_comma_space gap_is.1) (list_all-weaker (λ byte. not (is_space byte || is_comma byte)) p name no_comma_plain n.plain))
+    (list_all-weaker is_space p before no_comma_space bb) in
     let rest = front ++ (44 ∷ back) in
     let place : position_or_len is_comma rest ≡ length front = prefix_len-to_mark p front back 44 clear refl in
     let left : before_first is_comma rest ≡ front = ap (λ k. take k rest) place ∙ take-append_seam front (44 ∷ back) in

@@ -1,19 +1,17 @@
 -- What a statement is, it is alone.
-use Rattle.std.proofs.Common.{◌≡◌, ℕ, ℤ, pos, negsuc, ◌≤ℤ◌, ◌<◌, List, [], ◌∷◌, ◌++◌, length, Option, Some, None, inl, inr, refl, sym, ap, ap₂, subst, ◌∙◌, arith, codes, lit<, true, false}
+use Rattle.std.proofs.Common.{◌≡◌, ℕ, ℤ, pos, negsuc, ◌≤ℤ◌, ◌<◌, List, [], length, Option, Some, None, inl, inr, refl, sym, ap, ap₂, subst, ◌∙◌, arith, codes, lit<, true}
 use Rattle.std.proofs.lemmas.Int.{ints}
 use Rattle.std.specs.Int.{w128}
 use Rattle.std.specs.Option.{SomeIff}
 use Rattle.std.specs.Prelude.{FitsSigned}
 use Rattle.std.specs.Str.{bytes_eq}
 use mir.Val.{to_z, of_z}
-use Rattle.em_base.specs.Number.{IsNumber}
 use Rattle.em_asm.specs.declared.reading.Item.{Item}
-use Rattle.em_asm.specs.declared.reading.Item.TheVariants.{Nothing, One}
-use Rattle.em_asm.specs.Pieces.{IsWord, trimmed}
-use Rattle.em_asm.specs.Line.{Pads, IsBlank, IsStatement, IsLoadImmediate, StandsFor, loads_number}
-use Rattle.em_asm.specs.Registers.{register_of}
+use Rattle.em_asm.specs.declared.reading.Item.TheVariants.{Nothing}
+use Rattle.em_asm.specs.Pieces.{trimmed}
+use Rattle.em_asm.specs.Line.{IsStatement, StandsFor, loads_number}
 use Rattle.em_asm.proofs.Operands.{IsTight, pads-trimmed, trimmed-pads, trimmed-blank, blank-trimmed, tight-operands}
-use Rattle.em_asm.proofs.Words.{word-register, word-number}
+use Rattle.em_asm.proofs.Words.{word-number}
 
 pub missing : {A : Type 0} (a : A) → None ≡ Some a → ⊥
 missing a e = absurd (cc)
@@ -30,9 +28,9 @@ tight_call = record { some = lit< tt; starts = refl; ends = refl }
 
 pub tight-statement : (text : List ℕ) (item : Item) → IsStatement text item → IsTight text
 tight-statement text item h = elim h [
-    inl p ↦ subst IsTight (sym p.0) tight_call
+  | inl p ↦ subst IsTight (sym p.0) tight_call
   | inr p ↦ tight-operands text p.2.name p.2.digits (word-number p.2.digits p.1 p.2.numbered) p.2.operands
-  ]
+]
 
 -- a text that is the call is found to be
 pub call_tells : (text : List ℕ) → text ≡ codes "ecall" → bytes_eq text (codes "ecall") ≡ true
@@ -72,17 +70,17 @@ some_text text h e = absurd (omega (arith, ap length e))
 -- a blank line stands for nothing else
 pub item-blank : (line : List ℕ) (item : Item) → trimmed line ≡ [] → StandsFor line item → Nothing ≡ item
 item-blank line item e h = elim h [
-    inl p ↦ sym p.1
+  | inl p ↦ sym p.1
   | inr p ↦
-    let tight = tight-statement p.0 item p.2 in
-    absurd (some_text p.0 tight.some (sym (trimmed-pads line p.0 tight p.1) ∙ e))
-  ]
+      let tight = tight-statement p.0 item p.2 in
+      absurd (some_text p.0 tight.some (sym (trimmed-pads line p.0 tight p.1) ∙ e))
+]
 
 -- a line that isn't blank stands for its statement
 pub statement-line : (line : List ℕ) (item : Item) → 0 < length (trimmed line) → StandsFor line item → IsStatement (trimmed line) item
 statement-line line item some h = elim h [
-    inl p ↦ absurd (some_text (trimmed line) some (trimmed-blank line p.0))
+  | inl p ↦ absurd (some_text (trimmed line) some (trimmed-blank line p.0))
   | inr p ↦
-    let tight = tight-statement p.0 item p.2 in
-    subst (λ t. IsStatement t item) (sym (trimmed-pads line p.0 tight p.1)) p.2
-  ]
+      let tight = tight-statement p.0 item p.2 in
+      subst (λ t. IsStatement t item) (sym (trimmed-pads line p.0 tight p.1)) p.2
+]

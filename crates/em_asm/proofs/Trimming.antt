@@ -1,6 +1,6 @@
 -- What trimming gives, over any test of bytes.
 use mathlib.Core.Bool.{◌&&◌}
-use Rattle.std.proofs.Common.{◌≡◌, ℕ, suc, ◌+◌, ◌-◌, ◌<◌, ◌≤◌, Bool, true, false, not, cond, List, [], ◌∷◌, ◌++◌, length, take, drop, reverse, refl, sym, ap, ◌∙◌, arith, zero-add, append_assoc, append-nil, length-append}
+use Rattle.std.proofs.Common.{◌≡◌, ℕ, ◌+◌, ◌-◌, ◌<◌, Bool, true, false, cond, List, [], ◌∷◌, ◌++◌, length, take, drop, reverse, refl, sym, ap, ◌∙◌, arith, zero-add, append-nil, length-append}
 use Rattle.std.proofs.lemmas.List.{reverse-append, length-reverse, reverse-reverse}
 use Rattle.std.proofs.Math.Seq.{drop-append_seam, take-append_seam}
 use Rattle.std.proofs.lemmas.List.Folds.{list_all-append}
@@ -15,6 +15,17 @@ pub both_are : (a b : Bool) → a ≡ true → b ≡ true → (a && b) ≡ true
 both_are true true h k = refl
 both_are true false h k = absurd (cc)
 both_are false b h k = absurd (cc)
+
+-- where one test passes, another does
+pub list_all-weaker : (p q : ℕ → Bool) (xs : List ℕ) → ((x : ℕ) → p x ≡ true → q x ≡ true) → list_all p xs ≡ true → list_all q xs ≡ true
+list_all-weaker p q [] other h = refl
+list_all-weaker p q (x ∷ xs) other h =
+    let b = both (p x) (list_all p xs) h in
+    both_are (q x) (list_all q xs) (other x b.0) (list_all-weaker p q xs other b.1)
+
+-- the test passes on two lists, one after the other
+pub list_all-joined : (p : ℕ → Bool) (xs ys : List ℕ) → list_all p xs ≡ true → list_all p ys ≡ true → list_all p (xs ++ ys) ≡ true
+list_all-joined p xs ys h k = list_all-append p xs ys ∙ both_are (list_all p xs) (list_all p ys) h k
 
 -- the test passes on the front and goes on behind it
 pub prefix_len-past : (p : ℕ → Bool) (front rest : List ℕ) → list_all p front ≡ true → prefix_len p (front ++ rest) ≡ length front + prefix_len p rest

@@ -49,7 +49,7 @@ abbrev pub IsStatement : List ℕ → Item → Type 0
 IsStatement text item =
     ((text ≡ codes "ecall") × (item ≡ One Ecall))
     ⊎ ((register : ℕ) × (number : ℤ) × IsLoadImmediate text register number
-        × (negsuc 2047 ≤ℤ number) × (number ≤ℤ pos 2047) × (item ≡ loads_number register number))
+    × (negsuc 2047 ≤ℤ number) × (number ≤ℤ pos 2047) × (item ≡ loads_number register number))
 
 -- what a line stands for: nothing where it is blank, or its statement
 abbrev pub StandsFor : List ℕ → Item → Type 0

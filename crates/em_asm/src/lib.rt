@@ -2,9 +2,11 @@
 #![tactic(auto)]
 
 pub mod assembling;
+pub mod laws;
 pub mod pieces;
 pub mod reading;
 pub mod registers;
 
 pub use assembling::assemble;
+pub use laws::{one_meaning, only_ascii_stands};
 pub use reading::Item;

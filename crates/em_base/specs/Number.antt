@@ -1,5 +1,5 @@
 -- How numbers are written: this project's own, for assembly and for what is read beside it.
-use Rattle.std.specs.Prelude.{◌≡◌, ℕ, ℤ, pos, neg_ℤ, List, ◌∷◌, ◌++◌, ◌⊎◌, codes}
+use Rattle.std.specs.Prelude.{◌≡◌, ℕ, ℤ, pos, neg_ℤ, List, ◌++◌, ◌⊎◌, codes}
 use Rattle.std.specs.Str.Parse.{IsNumeral, digits_value}
 
 -- the text writes n: in decimal digits, or as 0x and hexadecimal digits of either case

@@ -1,5 +1,5 @@
 //! The lines of a text.
-ghost use Rattle.std.specs.Prelude.{◌≡◌, IfOk};
+ghost use Rattle.std.specs.Prelude.{◌≡◌, ◌≤◌, IfOk, length};
 ghost use Rattle.std.specs.Str.Lines.{lines};
 
 use crate::list::Items;
@@ -10,9 +10,10 @@ use std::alloc::Global;
 /// The lines of a text. A line ends by LF, one CR right before the LF is dropped, and the last line may lack its LF;
 /// then a CR at its end stays. The empty text has no line.
 ///
-/// Its only refusal is `NoMemory`.
+/// Its only refusal is `NoMemory`. Each line takes a byte at least, so there are no more lines than bytes.
 pub fn lines_of(alloc: Global, text: &str) -> Result<Items<Name>, NoMemory>
-    ensures { IfOk result (λ found. found ≡ lines text.now) }
+    ensures lines { IfOk result (λ found. found ≡ lines text.now) }
+    ensures few { IfOk result (λ found. length found ≤ length text.now) }
 {
     let mut found = Items::new(alloc);
     for line in text.lines() {

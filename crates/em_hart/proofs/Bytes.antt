@@ -1,7 +1,7 @@
 -- Writing bytes one by one is putting a number into them.
-use Rattle.std.proofs.Common.{◌≡◌, ℕ, suc, ◌+◌, ◌*◌, ◌/◌, ◌%◌, ◌<◌, ◌≤◌, List, [], ◌∷◌, ◌++◌, length, get_or, take, drop, set, refl, sym, ap, ◌∙◌, arith}
+use Rattle.std.proofs.Common.{◌≡◌, ℕ, ◌+◌, ◌/◌, ◌%◌, ◌<◌, List, [], ◌∷◌, ◌++◌, length, get_or, take, drop, set, refl, sym, ap, ◌∙◌, arith}
 use Rattle.std.proofs.lemmas.List.{take-append-drop, append_assoc, set_at, drop_more, length-append, length-take-le}
-use Rattle.em_hart.specs.Hart.{bytes_of, with_number}
+use Rattle.em_hart.specs.Hart.{bytes_of}
 
 -- one more byte is written right after a front that stands before the rest
 set_next : (front xs : List ℕ) (m b : ℕ) → length front ≡ m → m < length xs → set (front ++ drop m xs) m b ≡ (front ++ b ∷ []) ++ drop (m + 1) xs
@@ -29,7 +29,7 @@ pub put_four : (xs : List ℕ) (p a b c d : ℕ) → p + 3 < length xs
 put_four xs p a b c d h =
     let l : length (take p xs ++ (a ∷ b ∷ [])) ≡ p + 2 = omega (arith, length-append (take p xs) (a ∷ b ∷ []), length-take-le p xs (omega arith)) in
     let m : length (take p xs ++ (a ∷ b ∷ []) ++ c ∷ []) ≡ p + 3 =
-        omega (arith, l, length-append (take p xs ++ (a ∷ b ∷ [])) (c ∷ [])) in
+    omega (arith, l, length-append (take p xs ++ (a ∷ b ∷ [])) (c ∷ [])) in
     let e : p + 2 + 1 ≡ p + 3 = omega arith in
     let f : p + 3 + 1 ≡ p + 4 = omega arith in
     ap (λ (whole : List ℕ). set (set whole (p + 2) c) (p + 3) d) (put_two xs p a b (omega arith))

@@ -1,11 +1,11 @@
 -- Worked examples of the definition: words encoded by hand from the manual's formats, and what they come to.
-use Rattle.std.proofs.Common.{◌≡◌, ℕ, List, [], ◌∷◌, replicate, set, refl}
-use Rattle.std.specs.Prelude.{Option, Some, None}
+use Rattle.std.proofs.Common.{◌≡◌, ℕ, [], ◌∷◌, replicate, refl}
+use Rattle.std.specs.Prelude.{Some}
 use Rattle.em_hart.specs.declared.answers.Class.TheVariants.{Plain, Memory as MemoryClass}
 use Rattle.em_hart.specs.Hart.{Registers, Memory}
 use Rattle.em_hart.specs.Listing.{mnemonic, listing, first_row}
 use Rattle.em_hart.specs.Effect.{effect}
-use Rattle.em_hart.specs.Instruction.{Outcome, Ran, Call, Fault, exec, carried_out, done, written, named_value, value_of}
+use Rattle.em_hart.specs.Instruction.{Ran, Call, Fault, exec, carried_out, done, written, named_value, value_of}
 
 at : ℕ → ℕ → ℕ → Registers
 at x1 x2 pc = record { values = 0 ∷ x1 ∷ x2 ∷ replicate 29 0; pc = pc }

@@ -1,10 +1,10 @@
 -- Whether the program counter is inside the code.
-use Rattle.std.proofs.Common.{◌≡◌, ℕ, ◌*◌, ◌/◌, ◌%◌, ◌<◌, ◌≤◌, ◌⊎◌, Bool, true, false, ◌&&◌, List, length, get_or, refl, sym, ap, ◌∙◌, inl, inr, arith}
+use Rattle.std.proofs.Common.{◌≡◌, ℕ, ◌*◌, ◌/◌, ◌%◌, ◌<◌, ◌≤◌, ◌⊎◌, false, List, length, get_or, sym, ap, ◌∙◌, inl, inr, arith}
 use Rattle.std.specs.Prelude.{Option, None}
 use Rattle.std.proofs.lemmas.Bool.{cond-true, cond-false, eq-eqb, ne_eqb, lt-ltb, le-ltb, and_from, and_left, and_right}
 use Rattle.em_hart.specs.Hart.{Registers, Memory}
 use Rattle.em_hart.specs.Listing.{Mnemonic, mnemonic}
-use Rattle.em_hart.specs.Instruction.{Outcome, Fault, exec, carried_out, is_inside_code, outside_code, no_instruction}
+use Rattle.em_hart.specs.Instruction.{Fault, exec, carried_out, is_inside_code, outside_code, no_instruction}
 
 outside : (code : List ℕ) (p : ℕ) → (p % 4 ≡ 0 → ⊥) ⊎ ((p % 4 ≡ 0) × (length code ≤ p / 4)) → is_inside_code code p ≡ false
 outside code p (inl h) = and_left _ _ (ne_eqb (p % 4) 0 h)

@@ -1,11 +1,11 @@
 -- Each word that is listed is the word of an instruction that fits, so a word that no instruction has is not listed.
-use Rattle.std.proofs.Common.{◌≡◌, ℕ, suc, ◌+◌, ◌-◌, ◌*◌, ◌/◌, ◌%◌, ◌^◌, ◌<◌, ◌≤◌, Bool, true, false, ◌&&◌, cond, ℤ, pos, negsuc, Option, Some, None, List, [], ◌∷◌, eqb, refl, sym, ap, ◌∙◌, inl, inr, zero-add, arith}
-use Rattle.std.specs.Prelude.{IsTrue, unsigned_abs}
+use Rattle.std.proofs.Common.{◌≡◌, ℕ, ◌+◌, ◌-◌, ◌*◌, ◌/◌, ◌%◌, ◌^◌, ◌<◌, Bool, true, false, ℤ, pos, negsuc, Option, Some, None, List, [], ◌∷◌, refl, sym, ap, ◌∙◌, inl, inr, zero-add, arith}
+use Rattle.std.specs.Prelude.{IsTrue}
 use Rattle.std.specs.Bool.{MatchBool, OnTrue}
 use Rattle.std.proofs.lemmas.Bool.{eqb-true, and_parts, cases_Bool, cases_lt, cond-false, false≢true}
 use Rattle.em_isa.specs.declared.instructions.Instr.{Instr}
 use Rattle.em_isa.specs.declared.instructions.Instr.TheVariants.{Lui, Auipc, Jal, Jalr, Branch, Load, Store, OpImm, Op, Fence, Ecall, Ebreak}
-use Rattle.em_isa.specs.Encoding.{Fits, word_of, is_one_of, is_shift, IsImmediate, IsShiftAmount, IsWithin, IsOffset, twos_complement, operation_kind, shift_kind, r_format, i_format, s_format, b_format, u_format, j_format}
+use Rattle.em_isa.specs.Encoding.{Fits, word_of, is_one_of, is_shift, IsWithin, IsOffset, twos_complement, operation_kind, shift_kind, r_format, i_format, s_format, b_format, u_format, j_format}
 use Rattle.em_hart.specs.Fields.{opcode, rd, funct3, rs1, rs2, funct7}
 use Rattle.em_hart.specs.Listing.{Mnemonic, Pattern, by_opcode, by_funct3, by_funct7, by_word, is_of, Row, listing, first_row, mnemonic}
 
@@ -90,9 +90,9 @@ word_jal w h e =
     let top : w / 4096 < 1048576 = omega arith in
     let s = jump_bits (w / 4096) top in
     record {
-        instr = Jal (rd w) s.0;
-        fits = (omega arith, s.2);
-        is = ap (λ (x : ℕ). j_format x (rd w) 0b1101111) s.1 ∙ j_whole (w / 4096) (rd w) 0b1101111 top ∙ ap (u_format (w / 4096) (rd w)) (sym o) ∙ u_whole w;
+      instr = Jal (rd w) s.0;
+      fits = (omega arith, s.2);
+      is = ap (λ (x : ℕ). j_format x (rd w) 0b1101111) s.1 ∙ j_whole (w / 4096) (rd w) 0b1101111 top ∙ ap (u_format (w / 4096) (rd w)) (sym o) ∙ u_whole w;
     }
 
 i_is : (w n s f d o : ℕ) → w < 2 ^ 32 → n ≡ w / 2 ^ 20 → s ≡ rs1 w → funct3 w ≡ f → d ≡ rd w → opcode w ≡ o → i_format n s f d o ≡ w
@@ -136,9 +136,9 @@ word_imm w h op k l e =
     let p = fields_two w _ _ e in
     let s = signed_12 (w / 2 ^ 20) (omega arith) in
     record {
-        instr = OpImm op false (rd w) (rs1 w) s.0;
-        fits = (l, tt, omega arith, omega arith, at_false _ _ _ k s.2);
-        is = i_is w _ (rs1 w) op (rd w) 0b0010011 h (zero-add _ ∙ s.1) refl p.1 refl p.0;
+      instr = OpImm op false (rd w) (rs1 w) s.0;
+      fits = (l, tt, omega arith, omega arith, at_false _ _ _ k s.2);
+      is = i_is w _ (rs1 w) op (rd w) 0b0010011 h (zero-add _ ∙ s.1) refl p.1 refl p.0;
     }
 
 word_shift : (w : ℕ) → w < 2 ^ 32 → (op g : ℕ) (alt : Bool) → is_shift op ≡ true → op < 8 → OnTrue alt (op ≡ 5) → shift_kind alt ≡ g * 32 → OfPattern w (by_funct7 0b0010011 op g) → IsWord w
@@ -148,9 +148,9 @@ word_shift w h op g alt k l m n e =
     let small : amount < 32 = omega arith in
     let all : shift_kind alt + amount ≡ w / 2 ^ 20 = omega (arith, p.2, n) in
     record {
-        instr = OpImm op alt (rd w) (rs1 w) (pos amount);
-        fits = (l, m, omega arith, omega arith, at_true _ _ _ k small);
-        is = i_is w _ (rs1 w) op (rd w) 0b0010011 h all refl p.1 refl p.0;
+      instr = OpImm op alt (rd w) (rs1 w) (pos amount);
+      fits = (l, m, omega arith, omega arith, at_true _ _ _ k small);
+      is = i_is w _ (rs1 w) op (rd w) 0b0010011 h all refl p.1 refl p.0;
     }
 
 word_op : (w : ℕ) → w < 2 ^ 32 → (op : ℕ) (alt : Bool) → op < 8 → OnTrue alt (IsTrue (is_one_of op (0 ∷ 5 ∷ []))) → OfPattern w (by_funct7 0b0110011 op (operation_kind alt)) → IsWord w
@@ -163,9 +163,9 @@ word_store w h op k e =
     let p = fields_two w _ _ e in
     let s = signed_12 (funct7 w * 32 + rd w) (omega arith) in
     record {
-        instr = Store op (rs1 w) (rs2 w) s.0;
-        fits = (k, omega arith, omega arith, s.2);
-        is = ap (λ (x : ℕ). s_format x (rs2 w) (rs1 w) op 0b0100011) s.1 ∙ s_whole (funct7 w) (rs2 w) (rs1 w) op (rd w) 0b0100011 (omega arith) (omega arith) ∙ r_is w (funct7 w) op 0b0100011 h refl p.1 p.0;
+      instr = Store op (rs1 w) (rs2 w) s.0;
+      fits = (k, omega arith, omega arith, s.2);
+      is = ap (λ (x : ℕ). s_format x (rs2 w) (rs1 w) op 0b0100011) s.1 ∙ s_whole (funct7 w) (rs2 w) (rs1 w) op (rd w) 0b0100011 (omega arith) (omega arith) ∙ r_is w (funct7 w) op 0b0100011 h refl p.1 p.0;
     }
 
 word_branch : (w : ℕ) → w < 2 ^ 32 → (op : ℕ) → IsTrue (is_one_of op (0 ∷ 1 ∷ 4 ∷ 5 ∷ 6 ∷ 7 ∷ [])) → OfPattern w (by_funct3 0b1100011 op) → IsWord w
@@ -177,70 +177,86 @@ word_branch w h op k e =
     let ds : d < 32 = omega arith in
     let s = even_bits g d gs ds in
     record {
-        instr = Branch op (rs1 w) (rs2 w) s.0;
-        fits = (k, omega arith, omega arith, s.2);
-        is = ap (λ (x : ℕ). b_format x (rs2 w) (rs1 w) op 0b1100011) s.1 ∙ b_whole g (rs2 w) (rs1 w) op d 0b1100011 gs ds ∙ r_is w g op 0b1100011 h refl p.1 p.0;
+      instr = Branch op (rs1 w) (rs2 w) s.0;
+      fits = (k, omega arith, omega arith, s.2);
+      is = ap (λ (x : ℕ). b_format x (rs2 w) (rs1 w) op 0b1100011) s.1 ∙ b_whole g (rs2 w) (rs1 w) op d 0b1100011 gs ds ∙ r_is w g op 0b1100011 h refl p.1 p.0;
     }
+
+word_ecall : (w : ℕ) → OfPattern w (by_word 0x00000073) → IsWord w
+word_ecall w e = record { instr = Ecall; fits = tt; is = sym (eqb-true _ _ e) }
+
+word_ebreak : (w : ℕ) → OfPattern w (by_word 0x00100073) → IsWord w
+word_ebreak w e = record { instr = Ebreak; fits = tt; is = sym (eqb-true _ _ e) }
 
 -- ---- all rows
 
-abbrev AllRows : (Row → Type 0) → List Row → Type 0
-AllRows P [] = Unit {0}
-AllRows P (r ∷ rows) = P r × AllRows P rows
+-- a fact of each row
+data EachRow (P : Row → Type 0) : List Row → Type 0 where
+  no_rows : EachRow P []
+  one_more : {r : Row} {rows : List Row} → P r → EachRow P rows → EachRow P (r ∷ rows)
 
-row_found : (o f g w : ℕ) (A : Type 0) (rows : List Row) (name : Mnemonic) → AllRows (λ r. is_of r.pattern o f g w ≡ true → A) rows → first_row rows o f g w ≡ Some name → A
+infixr 30 ◌▸◌
+◌▸◌ : {P : Row → Type 0} {r : Row} {rows : List Row} → P r → EachRow P rows → EachRow P (r ∷ rows)
+p ▸ q = one_more p q
+
+row_found : (o f g w : ℕ) (A : Type 0) (rows : List Row) (name : Mnemonic) → EachRow (λ r. is_of r.pattern o f g w ≡ true → A) rows → first_row rows o f g w ≡ Some name → A
 unfolding first_row
 row_found o f g w A [] name h e = absurd (cc)
-row_found o f g w A (r ∷ rows) name h e =
-    elim (cases_Bool (is_of r.pattern o f g w))
-    [ inl t ↦ h.0 t
-    | inr n ↦ row_found o f g w A rows name h.1 (sym (cond-false (is_of r.pattern o f g w) (Some r.named) (first_row rows o f g w) n) ∙ e) ]
+row_found o f g w A (r ∷ rows) name (one_more p q) e =
+    elim (cases_Bool (is_of r.pattern o f g w)) [
+      | inl t ↦ p t
+      | inr n ↦ row_found o f g w A rows name q (sym (cond-false (is_of r.pattern o f g w) (Some r.named) (first_row rows o f g w) n) ∙ e)
+    ]
+
+each_listed : (w : ℕ) → w < 2 ^ 32 → EachRow (λ r. OfPattern w r.pattern → IsWord w) listing
+unfolding listing
+each_listed w h =
+    word_lui w h
+    ▸ word_auipc w h
+    ▸ word_jal w h
+    ▸ word_jalr w h
+    ▸ word_branch w h 0 refl
+    ▸ word_branch w h 1 refl
+    ▸ word_branch w h 4 refl
+    ▸ word_branch w h 5 refl
+    ▸ word_branch w h 6 refl
+    ▸ word_branch w h 7 refl
+    ▸ word_load w h 0 refl
+    ▸ word_load w h 1 refl
+    ▸ word_load w h 2 refl
+    ▸ word_load w h 4 refl
+    ▸ word_load w h 5 refl
+    ▸ word_store w h 0 refl
+    ▸ word_store w h 1 refl
+    ▸ word_store w h 2 refl
+    ▸ word_imm w h 0 refl (omega arith)
+    ▸ word_imm w h 2 refl (omega arith)
+    ▸ word_imm w h 3 refl (omega arith)
+    ▸ word_imm w h 4 refl (omega arith)
+    ▸ word_imm w h 6 refl (omega arith)
+    ▸ word_imm w h 7 refl (omega arith)
+    ▸ word_shift w h 1 0 false refl (omega arith) tt refl
+    ▸ word_shift w h 5 0 false refl (omega arith) tt refl
+    ▸ word_shift w h 5 32 true refl (omega arith) refl refl
+    ▸ word_op w h 0 false (omega arith) tt
+    ▸ word_op w h 0 true (omega arith) refl
+    ▸ word_op w h 1 false (omega arith) tt
+    ▸ word_op w h 2 false (omega arith) tt
+    ▸ word_op w h 3 false (omega arith) tt
+    ▸ word_op w h 4 false (omega arith) tt
+    ▸ word_op w h 5 false (omega arith) tt
+    ▸ word_op w h 5 true (omega arith) refl
+    ▸ word_op w h 6 false (omega arith) tt
+    ▸ word_op w h 7 false (omega arith) tt
+    ▸ word_fence w h
+    ▸ word_ecall w
+    ▸ word_ebreak w
+    ▸ no_rows
 
 -- what is listed is the word of an instruction that fits
 pub word_from_listed : (w : ℕ) → w < 2 ^ 32 → (name : Mnemonic) → mnemonic w ≡ Some name → IsWord w
-unfolding mnemonic listing
-word_from_listed w h name e =
-    row_found (opcode w) (funct3 w) (funct7 w) w (IsWord w) listing name
-        (word_lui w h, (
-        word_auipc w h, (
-        word_jal w h, (
-        word_jalr w h, (
-        word_branch w h 0 refl, (
-        word_branch w h 1 refl, (
-        word_branch w h 4 refl, (
-        word_branch w h 5 refl, (
-        word_branch w h 6 refl, (
-        word_branch w h 7 refl, (
-        word_load w h 0 refl, (
-        word_load w h 1 refl, (
-        word_load w h 2 refl, (
-        word_load w h 4 refl, (
-        word_load w h 5 refl, (
-        word_store w h 0 refl, (
-        word_store w h 1 refl, (
-        word_store w h 2 refl, (
-        word_imm w h 0 refl (omega arith), (
-        word_imm w h 2 refl (omega arith), (
-        word_imm w h 3 refl (omega arith), (
-        word_imm w h 4 refl (omega arith), (
-        word_imm w h 6 refl (omega arith), (
-        word_imm w h 7 refl (omega arith), (
-        word_shift w h 1 0 false refl (omega arith) tt refl, (
-        word_shift w h 5 0 false refl (omega arith) tt refl, (
-        word_shift w h 5 32 true refl (omega arith) refl refl, (
-        word_op w h 0 false (omega arith) tt, (
-        word_op w h 0 true (omega arith) refl, (
-        word_op w h 1 false (omega arith) tt, (
-        word_op w h 2 false (omega arith) tt, (
-        word_op w h 3 false (omega arith) tt, (
-        word_op w h 4 false (omega arith) tt, (
-        word_op w h 5 false (omega arith) tt, (
-        word_op w h 5 true (omega arith) refl, (
-        word_op w h 6 false (omega arith) tt, (
-        word_op w h 7 false (omega arith) tt, (
-        word_fence w h, (
-        λ e. record { instr = Ecall; fits = tt; is = sym (eqb-true _ _ e) }, (
-        λ e. record { instr = Ebreak; fits = tt; is = sym (eqb-true _ _ e) }, tt)))))))))))))))))))))))))))))))))))))))) e
+unfolding mnemonic
+word_from_listed w h name e = row_found (opcode w) (funct3 w) (funct7 w) w (IsWord w) listing name (each_listed w h) e
 
 -- a word that no instruction has is not listed
 pub none_listed : (w : ℕ) → w < 2 ^ 32 → (IsWord w → ⊥) → mnemonic w ≡ None

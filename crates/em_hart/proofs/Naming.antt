@@ -1,17 +1,17 @@
 -- The word of each instruction that fits is listed, and the effect listed for it is the instruction's.
-use Rattle.std.proofs.Common.{◌≡◌, ℕ, zero, suc, ◌+◌, ◌-◌, ◌*◌, ◌/◌, ◌%◌, ◌^◌, ◌<◌, ◌≤◌, Bool, true, false, ℤ, pos, negsuc, Option, Some, None, [], ◌∷◌, refl, sym, ap, subst, ◌∙◌, arith}
-use Rattle.std.specs.Prelude.{IsTrue, unsigned_abs}
+use Rattle.std.proofs.Common.{◌≡◌, ℕ, zero, suc, ◌+◌, ◌*◌, ◌/◌, ◌%◌, ◌<◌, Bool, true, false, ℤ, pos, negsuc, Option, Some, [], ◌∷◌, refl, sym, ap, ◌∙◌, arith}
+use Rattle.std.specs.Prelude.{IsTrue}
 use Rattle.std.specs.Bool.{MatchBool, OnTrue}
 use Rattle.std.proofs.lemmas.Bool.{false≢true}
 use Rattle.std.proofs.lemmas.Bool.Decides.{nat_tests}
 use Rattle.em_hart.specs.Widths.{bytes_in}
 use Rattle.em_isa.specs.declared.instructions.Instr.{Instr}
 use Rattle.em_isa.specs.declared.instructions.Instr.TheVariants.{Lui, Auipc, Jal, Jalr, Branch, Load, Store, OpImm, Op, Fence, Ecall, Ebreak}
-use Rattle.em_isa.specs.Encoding.{Fits, word_of, is_one_of, is_shift, IsImmediate, IsShiftAmount, IsWithin, IsOffset, twos_complement, operation_kind, shift_kind, r_format, i_format, s_format, b_format, u_format, j_format}
-use Rattle.em_hart.specs.Fields.{opcode, rd, funct3, rs1, rs2, funct7, shamt, imm_i, imm_s, imm_b, imm_u, imm_j}
+use Rattle.em_isa.specs.Encoding.{Fits, word_of, is_one_of, is_shift, IsImmediate, IsShiftAmount, IsOffset, twos_complement, operation_kind, shift_kind, i_format}
+use Rattle.em_hart.specs.Fields.{opcode, funct3, funct7, shamt, imm_i, imm_s, imm_b}
 use Rattle.em_hart.specs.Listing.{Mnemonic, lui, auipc, jal, jalr, beq, bne, blt, bge, bltu, bgeu, lb, lh, lw, lbu, lhu, sb, sh, sw, addi, slti, sltiu, xori, ori, andi, slli, srli, srai, add, sub, sll, slt, sltu, xor, srl, sra, or, and, fence, ecall, ebreak, listing, first_row, mnemonic}
-use Rattle.em_hart.specs.Effect.{Effect, writes, jumps, jumps_by_register, branches, loads, stores, effect, sum, even, amount, shifted_left, shifted_right, shifted_right_signed}
-use Rattle.em_hart.specs.Decoded.{computed, compared, width_of, is_signed, effect_of, modulo}
+use Rattle.em_hart.specs.Effect.{writes, jumps, jumps_by_register, branches, loads, stores, effect, sum, even, amount, shifted_left, shifted_right, shifted_right_signed}
+use Rattle.em_hart.specs.Decoded.{computed, compared, width_of, is_signed, effect_of}
 use Rattle.em_hart.proofs.Formats.{r_opcode, r_funct3, r_funct7, i_opcode, i_funct3, i_funct7, i_shamt, i_imm, s_imm, b_is_r, b_imm, u_opcode, u_imm, j_is_u, j_imm}
 
 -- the instruction of a word, by the listing, and what it does
@@ -47,10 +47,10 @@ op_row : (name : Mnemonic) (op : ℕ) (alt : Bool) (d s t : ℕ) → d < 32 → 
     → ((w pc a b : ℕ) → effect name w pc a b ≡ writes (computed op alt a b))
     → operation_kind alt < 128 → IsNamed (Op op alt d s t)
 op_row name op alt d s t k l m h e f g = record {
-    name = name;
-    listed = found (word_of (Op op alt d s t)) _ _ _ (Some name) (r_opcode (operation_kind alt) t s op d 0b0110011 (omega arith)) (r_funct3 (operation_kind alt) t s op d 0b0110011 (omega arith) k h) (r_funct7 (operation_kind alt) t s op d 0b0110011 (omega arith) k h l m g) (e _);
-    does = λ pc a b. f _ pc a b;
-  }
+  name = name;
+  listed = found (word_of (Op op alt d s t)) _ _ _ (Some name) (r_opcode (operation_kind alt) t s op d 0b0110011 (omega arith)) (r_funct3 (operation_kind alt) t s op d 0b0110011 (omega arith) k h) (r_funct7 (operation_kind alt) t s op d 0b0110011 (omega arith) k h l m g) (e _);
+  does = λ pc a b. f _ pc a b;
+}
 
 abbrev OpNamed : ℕ → Type 0
 OpNamed op = (alt : Bool) (d s t : ℕ) → OnTrue alt (IsTrue (is_one_of op (0 ∷ 5 ∷ []))) → d < 32 → s < 32 → t < 32 → IsNamed (Op op alt d s t)
@@ -109,9 +109,9 @@ imm_row name op d s imm k l h i e f =
     let n = 0 + twos_complement 12 imm in
     let z : n ≡ twos_complement 12 imm = omega arith in
     record {
-        name = name;
-        listed = found w _ _ _ (Some name) (i_opcode n s op d 0b0010011 (omega arith)) (i_funct3 n s op d 0b0010011 (omega arith) k h) refl (e _ _);
-        does = λ pc a b. f w pc a b ∙ ap (λ (x : ℕ). writes (computed op false a x)) (i_imm n imm s op d 0b0010011 (omega arith) k h l z i);
+      name = name;
+      listed = found w _ _ _ (Some name) (i_opcode n s op d 0b0010011 (omega arith)) (i_funct3 n s op d 0b0010011 (omega arith) k h) refl (e _ _);
+      does = λ pc a b. f w pc a b ∙ ap (λ (x : ℕ). writes (computed op false a x)) (i_imm n imm s op d 0b0010011 (omega arith) k h l z i);
     }
 
 shift_row : (name : Mnemonic) (op g d s n : ℕ) (alt : Bool) (shift : ℕ → ℕ → ℕ) → d < 32 → s < 32 → op < 8 → n < 32 → g < 128 → shift_kind alt ≡ g * 32
@@ -125,11 +125,11 @@ shift_row name op g d s n alt shift k l h i j kind e f c =
     let same : w ≡ v = ap (λ (x : ℕ). i_format (x + n) s op d 0b0010011) kind in
     let small : n ≡ amount n = omega arith in
     record {
-        name = name;
-        listed = found w _ _ _ (Some name) (ap opcode same ∙ i_opcode _ s op d 0b0010011 (omega arith)) (ap funct3 same ∙ i_funct3 _ s op d 0b0010011 (omega arith) k h) (ap funct7 same ∙ i_funct7 g n s op d 0b0010011 (omega arith) k h l i j) (e _);
-        does = λ pc a b.
-            f w pc a b ∙ ap (λ (x : ℕ). writes (shift a x)) (ap shamt same ∙ i_shamt g n s op d 0b0010011 (omega arith) k h l i j ∙ small)
-            ∙ ap (λ (x : ℕ). writes x) (sym (c a));
+      name = name;
+      listed = found w _ _ _ (Some name) (ap opcode same ∙ i_opcode _ s op d 0b0010011 (omega arith)) (ap funct3 same ∙ i_funct3 _ s op d 0b0010011 (omega arith) k h) (ap funct7 same ∙ i_funct7 g n s op d 0b0010011 (omega arith) k h l i j) (e _);
+      does = λ pc a b.
+          f w pc a b ∙ ap (λ (x : ℕ). writes (shift a x)) (ap shamt same ∙ i_shamt g n s op d 0b0010011 (omega arith) k h l i j ∙ small)
+          ∙ ap (λ (x : ℕ). writes x) (sym (c a));
     }
 
 abbrev ImmNamed : ℕ → Type 0
@@ -190,9 +190,9 @@ load_row name op d s imm k l h i e f =
     let w = word_of (Load op d s imm) in
     let n = twos_complement 12 imm in
     record {
-        name = name;
-        listed = found w _ _ _ (Some name) (i_opcode n s op d 0b0000011 (omega arith)) (i_funct3 n s op d 0b0000011 (omega arith) k h) refl (e _ _);
-        does = λ pc a b. f w pc a b ∙ ap (λ (x : ℕ). loads (is_signed op) (bytes_in (width_of op)) (sum a x)) (i_imm n imm s op d 0b0000011 (omega arith) k h l refl i);
+      name = name;
+      listed = found w _ _ _ (Some name) (i_opcode n s op d 0b0000011 (omega arith)) (i_funct3 n s op d 0b0000011 (omega arith) k h) refl (e _ _);
+      does = λ pc a b. f w pc a b ∙ ap (λ (x : ℕ). loads (is_signed op) (bytes_in (width_of op)) (sum a x)) (i_imm n imm s op d 0b0000011 (omega arith) k h l refl i);
     }
 
 abbrev LoadNamed : ℕ → Type 0
@@ -237,9 +237,9 @@ store_row name op s t imm k l h i e f =
     let w = word_of (Store op s t imm) in
     let n = twos_complement 12 imm in
     record {
-        name = name;
-        listed = found w _ _ _ (Some name) (r_opcode (n / 32 % 128) t s op (n / 1 % 32) 0b0100011 (omega arith)) (r_funct3 (n / 32 % 128) t s op (n / 1 % 32) 0b0100011 (omega arith) (omega arith) h) refl (e _ _);
-        does = λ pc a b. f w pc a b ∙ ap (λ (x : ℕ). stores (bytes_in (width_of op)) (sum a x) b) (s_imm imm t s op 0b0100011 (omega arith) h k l i);
+      name = name;
+      listed = found w _ _ _ (Some name) (r_opcode (n / 32 % 128) t s op (n / 1 % 32) 0b0100011 (omega arith)) (r_funct3 (n / 32 % 128) t s op (n / 1 % 32) 0b0100011 (omega arith) (omega arith) h) refl (e _ _);
+      does = λ pc a b. f w pc a b ∙ ap (λ (x : ℕ). stores (bytes_in (width_of op)) (sum a x) b) (s_imm imm t s op 0b0100011 (omega arith) h k l i);
     }
 
 abbrev StoreNamed : ℕ → Type 0
@@ -279,9 +279,9 @@ branch_row name op s t z k l h i e f =
     let d = n / 2 % 16 * 2 + n / 2048 % 2 in
     let same = b_is_r n t s op 0b1100011 in
     record {
-        name = name;
-        listed = found w _ _ _ (Some name) (ap opcode same ∙ r_opcode g t s op d 0b1100011 (omega arith)) (ap funct3 same ∙ r_funct3 g t s op d 0b1100011 (omega arith) (omega arith) h) refl (e _ _);
-        does = λ pc a b. f w pc a b ∙ ap (λ (x : ℕ). branches (compared op a b) (sum pc x)) (b_imm z t s op 0b1100011 (omega arith) h k l i.0 i.1);
+      name = name;
+      listed = found w _ _ _ (Some name) (ap opcode same ∙ r_opcode g t s op d 0b1100011 (omega arith)) (ap funct3 same ∙ r_funct3 g t s op d 0b1100011 (omega arith) (omega arith) h) refl (e _ _);
+      does = λ pc a b. f w pc a b ∙ ap (λ (x : ℕ). branches (compared op a b) (sum pc x)) (b_imm z t s op 0b1100011 (omega arith) h k l i.0 i.1);
     }
 
 abbrev BranchNamed : ℕ → Type 0
@@ -325,28 +325,28 @@ branch_named op h = by_eight BranchNamed branch_beq branch_bne (no_branch 2 refl
 pub named : (i : Instr) → Fits i → IsNamed i
 unfolding mnemonic first_row listing effect
 named (Lui d imm) h = record {
-    name = lui;
-    listed = found (word_of (Lui d imm)) _ _ _ (Some lui) (u_opcode imm d 0b0110111 (omega arith)) refl refl refl;
-    does = λ pc a b. ap writes (u_imm imm d 0b0110111 (omega arith) h.0 h.1);
-  }
+  name = lui;
+  listed = found (word_of (Lui d imm)) _ _ _ (Some lui) (u_opcode imm d 0b0110111 (omega arith)) refl refl refl;
+  does = λ pc a b. ap writes (u_imm imm d 0b0110111 (omega arith) h.0 h.1);
+}
 named (Auipc d imm) h = record {
-    name = auipc;
-    listed = found (word_of (Auipc d imm)) _ _ _ (Some auipc) (u_opcode imm d 0b0010111 (omega arith)) refl refl refl;
-    does = λ pc a b. ap (λ (x : ℕ). writes (sum pc x)) (u_imm imm d 0b0010111 (omega arith) h.0 h.1);
-  }
+  name = auipc;
+  listed = found (word_of (Auipc d imm)) _ _ _ (Some auipc) (u_opcode imm d 0b0010111 (omega arith)) refl refl refl;
+  does = λ pc a b. ap (λ (x : ℕ). writes (sum pc x)) (u_imm imm d 0b0010111 (omega arith) h.0 h.1);
+}
 named (Jal d z) h =
     let same = j_is_u (twos_complement 21 z) d 0b1101111 in
     record {
-        name = jal;
-        listed = found (word_of (Jal d z)) _ _ _ (Some jal) (ap opcode same ∙ u_opcode _ d 0b1101111 (omega arith)) refl refl refl;
-        does = λ pc a b. ap (λ (x : ℕ). jumps (sum pc 4) (sum pc x)) (j_imm z d 0b1101111 (omega arith) h.0 h.1.0 h.1.1);
+      name = jal;
+      listed = found (word_of (Jal d z)) _ _ _ (Some jal) (ap opcode same ∙ u_opcode _ d 0b1101111 (omega arith)) refl refl refl;
+      does = λ pc a b. ap (λ (x : ℕ). jumps (sum pc 4) (sum pc x)) (j_imm z d 0b1101111 (omega arith) h.0 h.1.0 h.1.1);
     }
 named (Jalr d s imm) h =
     let n = twos_complement 12 imm in
     record {
-        name = jalr;
-        listed = found (word_of (Jalr d s imm)) _ _ _ (Some jalr) (i_opcode n s 0 d 0b1100111 (omega arith)) (i_funct3 n s 0 d 0b1100111 (omega arith) h.0 (omega arith)) refl refl;
-        does = λ pc a b. ap (λ (x : ℕ). jumps_by_register (sum pc 4) (even (sum a x))) (i_imm n imm s 0 d 0b1100111 (omega arith) h.0 (omega arith) h.1 refl h.2);
+      name = jalr;
+      listed = found (word_of (Jalr d s imm)) _ _ _ (Some jalr) (i_opcode n s 0 d 0b1100111 (omega arith)) (i_funct3 n s 0 d 0b1100111 (omega arith) h.0 (omega arith)) refl refl;
+      does = λ pc a b. ap (λ (x : ℕ). jumps_by_register (sum pc 4) (even (sum a x))) (i_imm n imm s 0 d 0b1100111 (omega arith) h.0 (omega arith) h.1 refl h.2);
     }
 named (Branch op s t z) h = branch_named op (branch_below op h.0) s t z h.0 h.1 h.2 h.3
 named (Load op d s imm) h = load_named op (load_below op h.0) d s imm h.0 h.1 h.2 h.3
@@ -356,9 +356,9 @@ named (Op op alt d s t) h = op_named op h.0 alt d s t h.1 h.2 h.3 h.4
 named (Fence d s imm) h =
     let n = twos_complement 12 imm in
     record {
-        name = fence;
-        listed = found (word_of (Fence d s imm)) _ _ _ (Some fence) (i_opcode n s 0 d 0b0001111 (omega arith)) (i_funct3 n s 0 d 0b0001111 (omega arith) h.0 (omega arith)) refl refl;
-        does = λ pc a b. refl;
+      name = fence;
+      listed = found (word_of (Fence d s imm)) _ _ _ (Some fence) (i_opcode n s 0 d 0b0001111 (omega arith)) (i_funct3 n s 0 d 0b0001111 (omega arith) h.0 (omega arith)) refl refl;
+      does = λ pc a b. refl;
     }
-named Ecall h = record { name = ecall; listed = refl; does = λ pc a b. refl; }
-named Ebreak h = record { name = ebreak; listed = refl; does = λ pc a b. refl; }
+named Ecall h = record { name = ecall; listed = refl; does = λ pc a b. refl }
+named Ebreak h = record { name = ebreak; listed = refl; does = λ pc a b. refl }

@@ -1,11 +1,11 @@
 -- What an answer reports, by the ways in which instructions end.
-use Rattle.std.proofs.Common.{◌≡◌, ℕ, ◌*◌, ◌%◌, ◌^◌, ◌<◌, Bool, true, false, eqb, cond, Result, Ok, Err, refl, sym, ap, subst, ◌∙◌, arith}
+use Rattle.std.proofs.Common.{◌≡◌, ℕ, ◌%◌, Bool, true, false, eqb, cond, Ok, Err, refl, sym, ap, subst, ◌∙◌}
 use Rattle.em_hart.specs.declared.answers.Class.{Class}
 use Rattle.em_hart.specs.declared.answers.Class.TheVariants.{Plain, Memory as MemoryClass}
 use Rattle.em_hart.specs.declared.answers.Stepped.{Stepped}
-use Rattle.em_hart.specs.declared.answers.Stepped.TheVariants.{Ran as RanStep, Fault as FaultStep}
+use Rattle.em_hart.specs.declared.answers.Stepped.TheVariants.{Ran as RanStep}
 use Rattle.em_hart.specs.Hart.{Registers, Memory, with_register, has_bytes, loaded, stored}
-use Rattle.em_hart.specs.Effect.{Effect, writes, branches, loads, stores, passes}
+use Rattle.em_hart.specs.Effect.{writes, branches, loads, stores, passes}
 use Rattle.em_hart.specs.Instruction.{Outcome, Ran, Fault, done, gone_on, taken, extended, outside_windows, misaligned_data}
 use Rattle.em_hart.specs.Decoded.{read_of}
 use Rattle.em_hart.specs.Steps.{Reports, IsUnchanged}

@@ -1,17 +1,17 @@
 -- What a word comes to, and the value that it writes, by the instruction that it is the word of.
-use Rattle.std.proofs.Common.{◌≡◌, ℕ, ◌+◌, ◌-◌, ◌*◌, ◌/◌, ◌%◌, ◌^◌, ◌<◌, Option, Some, None, refl, sym, ap, ◌∙◌, arith}
+use Rattle.std.proofs.Common.{◌≡◌, ℕ, ◌+◌, ◌*◌, ◌/◌, ◌%◌, ◌^◌, Option, refl, sym, ap, ◌∙◌, arith}
 use Rattle.em_isa.specs.declared.instructions.Instr.{Instr}
 use Rattle.em_isa.specs.declared.instructions.Instr.TheVariants.{Lui, Auipc, Jal, Jalr, Branch, Load, Store, OpImm, Op, Fence, Ecall, Ebreak}
 use Rattle.em_isa.specs.Encoding.{Fits, word_of, twos_complement, operation_kind, shift_kind}
 use Rattle.em_hart.specs.Hart.{Registers, Memory, register}
-use Rattle.em_hart.specs.Fields.{opcode, rd, funct3, rs1, rs2}
+use Rattle.em_hart.specs.Fields.{rd, rs1, rs2}
 use Rattle.em_hart.specs.Listing.{Mnemonic, mnemonic}
-use Rattle.em_hart.specs.Effect.{Effect, branches, loads, stores, passes, writes, jumps, jumps_by_register, effect, sum, even}
-use Rattle.em_hart.specs.Instruction.{Outcome, done, carried_out, written, named_value, value_of}
-use Rattle.em_hart.specs.Decoded.{exec_instr, effect_of, rd_of, rs1_of, rs2_of, computed, compared, modulo, is_signed, width_of}
+use Rattle.em_hart.specs.Effect.{Effect, branches, loads, stores, writes, jumps, jumps_by_register, sum, even}
+use Rattle.em_hart.specs.Instruction.{done, carried_out, written, named_value, value_of}
+use Rattle.em_hart.specs.Decoded.{exec_instr, effect_of, computed, compared, modulo, is_signed, width_of}
 use Rattle.em_hart.specs.Widths.{bytes_in}
 use Rattle.em_hart.proofs.Formats.{r_rd, r_rs1, r_rs2, i_rd, i_rs1, b_is_r, u_rd, j_is_u}
-use Rattle.em_hart.proofs.Naming.{named, IsNamed, load_below, store_below, branch_below}
+use Rattle.em_hart.proofs.Naming.{named, load_below, store_below, branch_below}
 
 -- the registers that the fields of the word name are the instruction's
 by_fields : (i : Instr) → Fits i → (r : Registers) (own shared : Memory)

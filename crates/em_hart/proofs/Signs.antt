@@ -1,10 +1,10 @@
 -- Signed and unsigned tests, masks and shifts as the language has them.
-use Rattle.std.proofs.Common.{◌≡◌, ℕ, ◌+◌, ◌-◌, ◌*◌, ◌/◌, ◌%◌, ◌^◌, ◌<◌, Bool, true, false, not, nat_lt, nat_le, bit_and, ℤ, pos, negsuc, refl, ap, ◌∙◌, arith}
+use Rattle.std.proofs.Common.{◌≡◌, ℕ, ◌+◌, ◌*◌, ◌/◌, ◌%◌, ◌^◌, ◌<◌, not, nat_lt, nat_le, bit_and, ℤ, pos, negsuc, refl, ap, ◌∙◌, arith}
 use Rattle.std.specs.Prelude.{int_lt, int_le, FitsSigned}
 use Rattle.std.specs.Int.{w32, cast_signed, cast_unsigned, int_shr, int_div_euclid}
 use Rattle.em_hart.specs.Effect.{sum}
 use Rattle.em_hart.specs.Decoded.{modulo}
-use Rattle.std.proofs.lemmas.Int.{of_z-to_z, to_z-of_z, ints}
+use Rattle.std.proofs.lemmas.Int.{of_z-to_z, to_z-of_z}
 use Rattle.std.proofs.lemmas.Nat.{and_mask}
 use Rattle.std.proofs.lemmas.Nat.Bits.{and_high_mask}
 use Rattle.std.proofs.lemmas.Bool.Decides.{nat_tests}

@@ -1,6 +1,6 @@
 -- A number that was put into bytes stands there, and the other numbers stand as before.
-use Rattle.std.proofs.Common.{◌≡◌, ◌≢◌, ℕ, ◌+◌, ◌-◌, ◌*◌, ◌/◌, ◌%◌, ◌^◌, ◌<◌, ◌≤◌, List, [], ◌∷◌, ◌++◌, length, take, drop, inl, inr, refl, sym, ap, subst, ◌∙◌, arith}
-use Rattle.std.proofs.lemmas.List.{append_assoc, take_at, drop_at, drop-drop, drop-take, take-take, drop-append-le, take-append-le, length-append, length-take-le, length-drop, length-take}
+use Rattle.std.proofs.Common.{◌≡◌, ◌≢◌, ℕ, ◌+◌, ◌-◌, ◌*◌, ◌^◌, ◌<◌, ◌≤◌, List, ◌++◌, length, take, drop, inl, inr, refl, sym, ap, ◌∙◌, arith}
+use Rattle.std.proofs.lemmas.List.{append_assoc, take_at, drop_at, drop-drop, drop-take, take-take, drop-append-le, take-append-le, length-append, length-take-le, length-drop}
 use Rattle.std.proofs.lemmas.Bool.{cases_lt}
 use Rattle.em_hart.specs.Hart.{number_of, bytes_of, number_at, with_number}
 
@@ -39,8 +39,9 @@ number_at-with_number_other bytes i j w n h =
     let p = 4 * i in
     let front = take p bytes ++ bytes_of 4 w in
     let len : length front ≡ p + 4 = omega (arith, length-append (take p bytes) (bytes_of 4 w), length-take-le p bytes (omega arith)) in
-    elim (cases_lt j i)
-    [ inl l ↦
-        ap (λ (x : List ℕ). number_of (take 4 (drop (4 * j) x))) (append_assoc (take p bytes) (bytes_of 4 w) (drop (p + 4) bytes))
-        ∙ ap number_of (below bytes (bytes_of 4 w ++ drop (p + 4) bytes) p (4 * j) (omega arith) (omega arith))
-    | inr g ↦ ap (λ (x : List ℕ). number_of (take 4 x)) (above bytes front p (4 * j) len (omega arith)) ]
+    elim (cases_lt j i) [
+      | inl l ↦
+          ap (λ (x : List ℕ). number_of (take 4 (drop (4 * j) x))) (append_assoc (take p bytes) (bytes_of 4 w) (drop (p + 4) bytes))
+          ∙ ap number_of (below bytes (bytes_of 4 w ++ drop (p + 4) bytes) p (4 * j) (omega arith) (omega arith))
+      | inr g ↦ ap (λ (x : List ℕ). number_of (take 4 x)) (above bytes front p (4 * j) len (omega arith))
+    ]

@@ -1,5 +1,5 @@
 -- What an instruction does, by its fields as the code has them. The proofs show that it is what Effect says of its word.
-use Rattle.std.specs.Prelude.{ℕ, ◌+◌, ◌*◌, ◌/◌, ◌%◌, ◌^◌, Bool, true, false, not, Result, Ok, Err, ◌==◌, nat_lt, bit_and, bit_or, bit_xor, ℤ, if◌then◌else◌}
+use Rattle.std.specs.Prelude.{ℕ, ◌*◌, ◌%◌, ◌^◌, Bool, not, Result, Ok, Err, ◌==◌, nat_lt, bit_and, bit_or, bit_xor, ℤ, if◌then◌else◌}
 use Rattle.std.specs.Int.{w32, cast_unsigned}
 use Rattle.em_isa.specs.declared.instructions.Instr.{Instr}
 use Rattle.em_isa.specs.declared.instructions.Instr.TheVariants.{Lui, Auipc, Jal, Jalr, Branch, Load, Store, OpImm, Op, Fence, Ecall, Ebreak}
@@ -49,8 +49,8 @@ unfoldable pub read_of : Memory → Memory → ℕ → ℕ → Result ℕ ℕ
 read_of own shared n address =
     if address % n == 0
     then if has_bytes own n address
-        then Ok (loaded own n address)
-        else if has_bytes shared n address then Ok (loaded shared n address) else Err outside_windows
+    then Ok (loaded own n address)
+    else if has_bytes shared n address then Ok (loaded shared n address) else Err outside_windows
     else Err misaligned_data
 
 abbrev pub rd_of : Instr → ℕ

@@ -1,7 +1,7 @@
 -- One instruction: what the word at the program counter does to the registers and the two windows.
 -- RISC-V unprivileged manual, RV32I version 2.1, over the tables of Listing and Effect; the causes of faults, and their
 -- order, are this project's own.
-use Rattle.std.specs.Prelude.{ℕ, ◌+◌, ◌*◌, ◌/◌, ◌%◌, ◌^◌, Bool, true, false, ◌&&◌, ◌==◌, nat_lt, List, length, slice_index, if◌then◌else◌, Option, Some, None}
+use Rattle.std.specs.Prelude.{ℕ, ◌*◌, ◌/◌, ◌%◌, Bool, ◌&&◌, ◌==◌, nat_lt, List, length, slice_index, if◌then◌else◌, Option, Some, None}
 use Rattle.em_hart.specs.declared.answers.Class.{Class}
 use Rattle.em_hart.specs.declared.answers.Class.TheVariants.{Plain, Memory as MemoryClass}
 use Rattle.em_hart.specs.Hart.{Registers, Memory, register, with_register, with_pc, has_bytes, loaded, stored}
@@ -73,18 +73,18 @@ done (branches condition target) d registers own shared =
 done (loads signed n address) d registers own shared =
     if address % n == 0
     then if has_bytes own n address
-        then Ran MemoryClass (gone_on (with_register registers d (extended signed n (loaded own n address)))) own shared
-        else if has_bytes shared n address
-            then Ran MemoryClass (gone_on (with_register registers d (extended signed n (loaded shared n address)))) own shared
-            else Fault outside_windows
+    then Ran MemoryClass (gone_on (with_register registers d (extended signed n (loaded own n address)))) own shared
+    else if has_bytes shared n address
+    then Ran MemoryClass (gone_on (with_register registers d (extended signed n (loaded shared n address)))) own shared
+    else Fault outside_windows
     else Fault misaligned_data
 done (stores n address value) d registers own shared =
     if address % n == 0
     then if has_bytes own n address
-        then Ran MemoryClass (gone_on registers) (stored own n address value) shared
-        else if has_bytes shared n address
-            then Ran MemoryClass (gone_on registers) own (stored shared n address value)
-            else Fault outside_windows
+    then Ran MemoryClass (gone_on registers) (stored own n address value) shared
+    else if has_bytes shared n address
+    then Ran MemoryClass (gone_on registers) own (stored shared n address value)
+    else Fault outside_windows
     else Fault misaligned_data
 done passes d registers own shared = Ran Plain (gone_on registers) own shared
 done calls d registers own shared = Call

@@ -2,7 +2,7 @@
 -- RISC-V unprivileged manual, chapter "RV32/64G Instruction Set Listings", table "RV32I Base Instruction Set"; the
 -- opcodes are those of the table "RISC-V base opcode map" there.
 use Rattle.std.specs.Prelude.{ℕ, Bool, ◌&&◌, ◌==◌, List, [], ◌∷◌, if◌then◌else◌, Option, Some, None}
-use Rattle.em_hart.specs.Fields.{opcode, funct3, funct7, bits}
+use Rattle.em_hart.specs.Fields.{opcode, funct3, funct7}
 
 -- the instructions of RV32I
 pub data Mnemonic : Type 0 where
@@ -72,22 +72,31 @@ row pattern named = record { pattern = pattern; named = named }
 -- the opcodes
 abbrev LUI : ℕ
 LUI = 0b0110111
+
 abbrev AUIPC : ℕ
 AUIPC = 0b0010111
+
 abbrev JAL : ℕ
 JAL = 0b1101111
+
 abbrev JALR : ℕ
 JALR = 0b1100111
+
 abbrev BRANCH : ℕ
 BRANCH = 0b1100011
+
 abbrev LOAD : ℕ
 LOAD = 0b0000011
+
 abbrev STORE : ℕ
 STORE = 0b0100011
+
 abbrev OP_IMM : ℕ
 OP_IMM = 0b0010011
+
 abbrev OP : ℕ
 OP = 0b0110011
+
 abbrev MISC_MEM : ℕ
 MISC_MEM = 0b0001111
 

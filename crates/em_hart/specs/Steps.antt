@@ -1,5 +1,5 @@
 -- How the answer of a step, and what stands after it, report what the instruction came to.
-use Rattle.std.specs.Prelude.{◌≡◌, ℕ, Result, Ok, Err, ◌%◌, ◌==◌, if◌then◌else◌}
+use Rattle.std.specs.Prelude.{◌≡◌}
 use Rattle.em_hart.specs.declared.answers.Stepped.{Stepped}
 use Rattle.em_hart.specs.declared.answers.Stepped.TheVariants.{Ran as RanStep, Call as CallStep, Fault as FaultStep}
 use Rattle.em_hart.specs.Hart.{Registers, Memory}

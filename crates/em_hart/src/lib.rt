@@ -7,7 +7,9 @@ mod moves;
 pub mod operations;
 pub mod registers;
 pub mod stepping;
-pub mod widths;
+#[cfg(test)]
+mod tests;
+mod widths;
 pub mod windows;
 
 pub use answers::{
@@ -17,5 +19,4 @@ pub use answers::{
 pub use operations::value;
 pub use registers::Regs;
 pub use stepping::step;
-pub use widths::Width;
 pub use windows::Window;

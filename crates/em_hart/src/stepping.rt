@@ -90,7 +90,12 @@ fn carry_out(i: &Instr, regs: &mut Regs, own: &mut Window, shared: &mut Window) 
             imm,
         } => {
             let a = regs.get(rs1);
-            wrote(regs, rd, computed(op, alt, a, imm.cast_unsigned()), Class::Plain)
+            wrote(
+                regs,
+                rd,
+                computed(op, alt, a, imm.cast_unsigned()),
+                Class::Plain,
+            )
         }
         Instr::Op {
             op,

@@ -5,7 +5,7 @@ ghost use Rattle.em_hart.specs.Widths.{bytes_in};
 
 /// How much of memory an access touches.
 #[derive(Clone, Copy, Debug, PartialEq, Eq)]
-pub enum Width {
+pub(crate) enum Width {
     /// One byte.
     Byte,
     /// Two bytes.
@@ -16,7 +16,7 @@ pub enum Width {
 
 impl Width {
     /// How many bytes it is: 1, 2 or 4.
-    pub fn bytes(self) -> u32
+    pub(crate) fn bytes(self) -> u32
         ensures { result ≡ bytes_in self }
     {
         match self {
@@ -27,7 +27,7 @@ impl Width {
     }
 
     /// Whether an address is a multiple of the width.
-    pub fn is_aligned(self, address: u32) -> bool
+    pub(crate) fn is_aligned(self, address: u32) -> bool
         ensures { result ≡ (address % bytes_in self == 0) }
     {
         match self {
@@ -38,7 +38,7 @@ impl Width {
     }
 
     /// A number of this width with its sign bit copied into all bits above it.
-    pub fn sign_extended(self, number: u32) -> u32
+    pub(crate) fn sign_extended(self, number: u32) -> u32
         requires { number < 2 ^ (8 * bytes_in self) }
         ensures { result ≡ sign_extended (8 * bytes_in self) number }
     {

@@ -73,8 +73,8 @@ impl Window {
         requires limit { length ≤ 65536 }
         requires room { 4 * len first.now ≤ length }
         ensures { IfOk result (λ window. window ≡ record {
-            base = base;
-            bytes = flat_map (bytes_of 4) first.now ++ replicate (length - 4 * len first.now) 0;
+          base = base;
+          bytes = flat_map (bytes_of 4) first.now ++ replicate (length - 4 * len first.now) 0;
         }) }
     {
         match filled(alloc, first, length) {
@@ -115,7 +115,7 @@ impl Window {
     }
 
     /// Where in the window the bytes of an access at an address stand; `None` exactly where they are not wholly inside.
-    pub fn place(&self, width: Width, address: u32) -> Option<usize>
+    pub(crate) fn place(&self, width: Width, address: u32) -> Option<usize>
         ensures found { IfSome result (λ place. IsTrue (has_bytes self.now (bytes_in width) address)) }
         ensures value { IfSome result (λ place. place ≡ address - self.now.base) }
         ensures within { IfSome result (λ place. place + bytes_in width ≤ len self.now.bytes) }
@@ -130,7 +130,7 @@ impl Window {
     }
 
     /// The number that stands at a place, without a sign.
-    pub fn number(&self, width: Width, place: usize) -> u32
+    pub(crate) fn number(&self, width: Width, place: usize) -> u32
         requires { place + bytes_in width ≤ len self.now.bytes }
         ensures number { result ≡ number_at self.now.bytes (bytes_in width) place }
         ensures small { result < 2 ^ (8 * bytes_in width) }
@@ -149,7 +149,7 @@ impl Window {
     }
 
     /// Puts the lowest bytes of a number at a place.
-    pub fn put(&mut self, width: Width, place: usize, number: u32)
+    pub(crate) fn put(&mut self, width: Width, place: usize, number: u32)
         requires { place + bytes_in width ≤ len self.old.bytes }
         ensures whole { self.new
             ≡ record self.old { bytes = with_number self.old.bytes (bytes_in width) place number } }

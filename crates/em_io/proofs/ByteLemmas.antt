@@ -1,6 +1,6 @@
 -- What is told of bytes that are taken or appended in several pieces.
-use Rattle.std.proofs.Common.{◌≡◌, ℕ, ◌+◌, ◌-◌, List, [], ◌++◌, length, take, drop, Option, None, Some, refl, ap, sym, subst, ◌∙◌, append_assoc, arith, length-append}
-use Rattle.std.proofs.lemmas.List.{append-nil, take_at, take_rest}
+use Rattle.std.proofs.Common.{◌≡◌, ℕ, ◌+◌, ◌-◌, List, ◌++◌, length, take, drop, Option, None, Some, refl, ap, sym, subst, ◌∙◌, append_assoc, arith, length-append}
+use Rattle.std.proofs.lemmas.List.{take_at, take_rest}
 use Rattle.std.proofs.lemmas.Simd.{chunk-drop}
 use Rattle.std.proofs.Math.Seq.{take-add}
 use Rattle.em_io.specs.Bytes.{then_left, and_then, Took}
@@ -10,20 +10,10 @@ pub then_left-then_left : (a b : List ℕ) (left : Option (List ℕ)) → then_l
 then_left-then_left a b None = refl
 then_left-then_left a b (Some rest) = ap Some (sym (append_assoc a b rest))
 
--- taking nothing leaves all
-pub then_left-nil : (left : Option (List ℕ)) → then_left [] left ≡ left
-then_left-nil None = refl
-then_left-nil (Some rest) = refl
-
 -- appending two pieces is appending both at once
 pub and_then-and_then : (written : Option (List ℕ)) (a b : List ℕ) → and_then (and_then written a) b ≡ and_then written (a ++ b)
 and_then-and_then None a b = refl
 and_then-and_then (Some bytes) a b = ap Some (append_assoc bytes a b)
-
--- appending nothing changes nothing
-pub and_then-nil : (written : Option (List ℕ)) → and_then written [] ≡ written
-and_then-nil None = refl
-and_then-nil (Some bytes) = ap Some (append-nil bytes)
 
 -- the next bytes were taken after these, and the number of both has the property
 pub took_more :

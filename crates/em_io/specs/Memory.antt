@@ -26,13 +26,13 @@ pub record Store : Type 0 where
   pub faults : ℕ
 
 -- a count that went up by one, but stands still at its last value: this project's own
-abbrev pub counted : ℕ → ℕ
-counted n = min (n + 1) (2 ^ 64 - 1)
+abbrev pub next_count : ℕ → ℕ
+next_count n = min (n + 1) (2 ^ 64 - 1)
 
 -- how many bytes a call hands over that has room for this many: this project's own
-abbrev pub handed : Supply → ℕ → ℕ
-handed supply asked = min (min asked supply.piece) (length supply.left)
+abbrev pub read_size : Supply → ℕ → ℕ
+read_size supply asked = min (min asked supply.piece) (length supply.left)
 
 -- how many bytes a call takes that is offered this many: this project's own
-abbrev pub accepted : Store → ℕ → ℕ
-accepted store offered = min (min offered store.piece) (store.room - length store.written)
+abbrev pub write_size : Store → ℕ → ℕ
+write_size store offered = min (min offered store.piece) (store.room - length store.written)

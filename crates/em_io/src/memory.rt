@@ -1,7 +1,7 @@
 //! A source and a sink in memory, which move a few bytes at a time and fail at the calls that they are told to fail at.
 ghost use Rattle.std.specs.Prelude.{◌≡◌, ◌+◌, ◌-◌, ◌<◌, ◌≤◌, ◌↔◌, ◌⊎◌, [], ◌++◌, length, take, drop, Some, IfOk, OnOk, OnErr, IsErr, Contains};
 ghost use Rattle.em_io.specs.Bytes.{Rose, then_left, and_then, IsAtEnd};
-ghost use Rattle.em_io.specs.Memory.{counted, handed, accepted};
+ghost use Rattle.em_io.specs.Memory.{next_count, read_size, write_size};
 
 use crate::sinks::Sink;
 use crate::sources::{Failed, Source};
@@ -74,12 +74,12 @@ impl Source for MemSource {
         ensures grows { self.old.faults ≤ self.new.faults }
 
         // The same exactly: when it fails, how many bytes come, and what it leaves.
-        ensures fails { IsErr result ↔ Contains self.old.fails (counted self.old.calls) }
-        ensures amount { IfOk result (λ k. k ≡ handed self.old (length buf.old)) }
+        ensures fails { IsErr result ↔ Contains self.old.fails (next_count self.old.calls) }
+        ensures amount { IfOk result (λ k. k ≡ read_size self.old (length buf.old)) }
         ensures front { IfOk result (λ k. buf.new ≡ take k self.old.left ++ drop k buf.old) }
-        ensures read { IfOk result (λ k. self.new ≡ record self.old { left = drop k self.old.left; calls = counted self.old.calls }) }
+        ensures read { IfOk result (λ k. self.new ≡ record self.old { left = drop k self.old.left; calls = next_count self.old.calls }) }
         ensures untouched { OnErr result (buf.new ≡ buf.old) }
-        ensures failed { OnErr result (self.new ≡ record self.old { calls = counted self.old.calls; faults = counted self.old.faults }) }
+        ensures failed { OnErr result (self.new ≡ record self.old { calls = next_count self.old.calls; faults = next_count self.old.faults }) }
     {
         self.calls = self.calls.saturating_add(1);
         if self.fails.contains(&self.calls) {
@@ -176,10 +176,10 @@ impl Sink for MemSink {
         ensures grows { self.old.faults ≤ self.new.faults }
 
         // The same exactly: when it fails, how many bytes it takes, and what it leaves.
-        ensures fails { IsErr result ↔ (Contains self.old.fails (counted self.old.calls) ⊎ ((self.old.room ≤ length self.old.written) × (0 < length bytes.now))) }
-        ensures amount { IfOk result (λ k. k ≡ accepted self.old (length bytes.now)) }
-        ensures wrote { IfOk result (λ k. self.new ≡ record self.old { written = self.old.written ++ take k bytes.now; calls = counted self.old.calls }) }
-        ensures failed { OnErr result (self.new ≡ record self.old { calls = counted self.old.calls; faults = counted self.old.faults }) }
+        ensures fails { IsErr result ↔ (Contains self.old.fails (next_count self.old.calls) ⊎ ((self.old.room ≤ length self.old.written) × (0 < length bytes.now))) }
+        ensures amount { IfOk result (λ k. k ≡ write_size self.old (length bytes.now)) }
+        ensures wrote { IfOk result (λ k. self.new ≡ record self.old { written = self.old.written ++ take k bytes.now; calls = next_count self.old.calls }) }
+        ensures failed { OnErr result (self.new ≡ record self.old { calls = next_count self.old.calls; faults = next_count self.old.faults }) }
         ensures within { length self.new.written ≤ self.new.room }
     {
         self.calls = self.calls.saturating_add(1);

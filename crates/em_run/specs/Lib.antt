@@ -5,3 +5,4 @@ pub mod Plain
 pub mod Machine
 pub mod Program
 pub mod Output
+pub mod Texts

@@ -1,7 +1,7 @@
 -- What the program answers and writes, by its words and by what it read: this project's own.
 use Rattle.std.specs.Prelude.{◌≡◌, ◌≢◌, ℕ, ◌+◌, ◌≤◌, List, [], ◌∷◌, ◌++◌, length, Option, codes}
 use Rattle.std.specs.Fmt.{decimal}
-use Rattle.em_io.specs.Bytes.{input_limit, Rose, then_left, IsAtEnd, Took}
+use Rattle.em_io.specs.Bytes.{input_limit, Rose, then_left, and_then, IsAtEnd, Took}
 use Rattle.em_run.specs.declared.status.Status.{Status}
 use Rattle.em_run.specs.declared.status.Status.TheVariants.{Done, Usage, ReadFault, WriteFault, TooLong, Malformed, NoMemory}
 use Rattle.em_run.specs.Trace.{lines_text}
@@ -19,38 +19,57 @@ pub record Reading : Type 0 where
   pub faults_before : ℕ
   pub faults_after : ℕ
 
+-- the reading of a source, from what stands before the call and after it
+abbrev pub reading : Option (List ℕ) → Option (List ℕ) → ℕ → ℕ → Reading
+reading before after faults_before faults_after =
+    record { left_before = before; left_after = after; faults_before = faults_before; faults_after = faults_after }
+
 -- these bytes were all that was left, were read to their end, and are within the limit
 pub record ReadsAll (reading : Reading) (bytes : List ℕ) : Type 0 where
   pub all : reading.left_before ≡ then_left bytes reading.left_after
   pub to_end : IsAtEnd reading.left_after
   pub within : length bytes ≤ input_limit
 
+-- these bytes were appended to what was written, and no others
+abbrev pub Wrote : Option (List ℕ) → Option (List ℕ) → List ℕ → Type 0
+Wrote before after bytes = after ≡ and_then before bytes
+
 -- the text of a run
 abbrev pub run_text : List ℕ → List ℕ
 run_text code = codes "%trace\n" ++ lines_text (trace_of code)
 
--- the text of a refusal of a form that isn't read yet, at a line
-abbrev pub refusal_text : ℕ → List ℕ
-refusal_text line = codes "error 60 line " ++ decimal line ++ codes "\n"
+-- the text of a refusal, by its code and its line
+abbrev pub refusal_text : ℕ → ℕ → List ℕ
+refusal_text code line = codes "error " ++ decimal code ++ codes " line " ++ decimal line ++ codes "\n"
 
 -- the bytes are a program, and the text is that of its run
 abbrev pub IsRunText : List ℕ → List ℕ → Type 0
 IsRunText bytes text = (code : List ℕ) × IsProgram bytes code × (text ≡ run_text code)
 
--- the bytes are refused at a line, and the text names it
+-- the bytes are refused at a line, with the code of a form that isn't read yet, and the text names both
 abbrev pub IsRefusalText : List ℕ → List ℕ → Type 0
-IsRefusalText bytes text = (line : ℕ) × IsRefusedAt bytes line × (text ≡ refusal_text line)
+IsRefusalText bytes text = (line : ℕ) × IsRefusedAt bytes line × (text ≡ refusal_text 60 line)
+
+-- what is due for bytes that were read to their end
+abbrev pub IsAnswerTo : List ℕ → Status → List ℕ → Type 0
+IsAnswerTo bytes Done text = IsRunText bytes text
+IsAnswerTo bytes Malformed text = IsRefusalText bytes text
+IsAnswerTo bytes NoMemory text = text ≡ codes "error memory\n"
+IsAnswerTo bytes Usage text = ⊥
+IsAnswerTo bytes ReadFault text = ⊥
+IsAnswerTo bytes WriteFault text = ⊥
+IsAnswerTo bytes TooLong text = ⊥
 
 -- each status, its cause and the text that is due with it. The words are looked at first, then the source, then the
 -- length, then the form. Want of memory needs no cause, and a fault of writing has no text of its own.
 abbrev pub IsDue : List (List ℕ) → Reading → Status → List ℕ → Type 0
-IsDue words reading Done text = IsRun words × ((bytes : List ℕ) × ReadsAll reading bytes × IsRunText bytes text)
-IsDue words reading Usage text =
-    (words ≢ codes "run" ∷ []) × (reading.left_after ≡ reading.left_before) × (text ≡ codes "error usage\n")
-IsDue words reading ReadFault text =
-    IsRun words × Rose reading.faults_before reading.faults_after × (text ≡ codes "error read\n")
-IsDue words reading WriteFault text = ⊥
-IsDue words reading TooLong text =
-    IsRun words × Took (λ n. n ≡ input_limit + 1) reading.left_before reading.left_after × (text ≡ codes "error too long\n")
-IsDue words reading Malformed text = IsRun words × ((bytes : List ℕ) × ReadsAll reading bytes × IsRefusalText bytes text)
-IsDue words reading NoMemory text = text ≡ codes "error memory\n"
+IsDue words r Done text = IsRun words × ((bytes : List ℕ) × ReadsAll r bytes × IsRunText bytes text)
+IsDue words r Usage text =
+    (words ≢ codes "run" ∷ []) × (r.left_after ≡ r.left_before) × (text ≡ codes "error usage\n")
+IsDue words r ReadFault text =
+    IsRun words × Rose r.faults_before r.faults_after × (text ≡ codes "error read\n")
+IsDue words r WriteFault text = ⊥
+IsDue words r TooLong text =
+    IsRun words × Took (λ n. n ≡ input_limit + 1) r.left_before r.left_after × (text ≡ codes "error too long\n")
+IsDue words r Malformed text = IsRun words × ((bytes : List ℕ) × ReadsAll r bytes × IsRefusalText bytes text)
+IsDue words r NoMemory text = text ≡ codes "error memory\n"

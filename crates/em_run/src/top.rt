@@ -1,1 +1,68 @@
-//! Top.
+//! The top call.
+ghost use Rattle.std.specs.Prelude.{◌≡◌, ◌≢◌, ◌⊎◌, ℕ, ◌+◌, ◌≤◌, List, [], ◌∷◌, length, map, take, string_bytes, codes};
+ghost use Rattle.em_io.specs.Bytes.{input_limit, Rose, Took};
+ghost use Rattle.em_run.specs.Output.{IsDue, ReadsAll, Wrote, reading, refusal_text, run_text};
+ghost use Rattle.em_run.specs.Program.{IsProgram, IsRefusedAt};
+
+use crate::answer::{decide, text_bytes};
+use crate::status::Status;
+use em_asm::one_meaning;
+use em_io::{Sink, Source, write_all};
+use std::alloc::Global;
+
+/// All that the program does. `words` are the words after its name. The one command is `run`: it reads the source to its
+/// end, runs the program that the bytes stand for, and writes the trace.
+///
+/// The words are looked at first, then the source, then the length of what was read, then its form; the first that is
+/// amiss decides the status. Each status but `WriteFault` has one text, which is made first and then written whole;
+/// `WriteFault` takes the place of any status whose text could not be written.
+pub fn emeralds<S: Source, K: Sink>(
+    alloc: Global,
+    words: &[String],
+    src: &mut S,
+    out: &mut K,
+) -> Status
+    // The status comes with its cause, and what was written is the text that is due with it.
+    ensures answer { result ≢ Status.WriteFault → (text : List ℕ)
+        × IsDue (map string_bytes words.now) (reading (S.left src.old) (S.left src.new) (S.faults src.old) (S.faults src.new)) result text
+        × Wrote (K.written out.old) (K.written out.new) text }
+
+    // The same, status by status: its cause, and the one line or the output that was written.
+    ensures done { result ≡ Status.Done → (bytes : List ℕ)
+        × ReadsAll (reading (S.left src.old) (S.left src.new) (S.faults src.old) (S.faults src.new)) bytes
+        × ((code : List ℕ) × IsProgram bytes code × Wrote (K.written out.old) (K.written out.new) (run_text code)) }
+    ensures usage { result ≡ Status.Usage → (map string_bytes words.now ≢ codes "run" ∷ [])
+        × (S.left src.new ≡ S.left src.old) × Wrote (K.written out.old) (K.written out.new) (codes "error usage\n") }
+    ensures read_fault { result ≡ Status.ReadFault → Rose (S.faults src.old) (S.faults src.new)
+        × Wrote (K.written out.old) (K.written out.new) (codes "error read\n") }
+    ensures too_long { result ≡ Status.TooLong → Took (λ n. n ≡ input_limit + 1) (S.left src.old) (S.left src.new)
+        × Wrote (K.written out.old) (K.written out.new) (codes "error too long\n") }
+    ensures malformed { result ≡ Status.Malformed → (bytes : List ℕ)
+        × ReadsAll (reading (S.left src.old) (S.left src.new) (S.faults src.old) (S.faults src.new)) bytes
+        × ((line : ℕ) × IsRefusedAt bytes line × Wrote (K.written out.old) (K.written out.new) (refusal_text 60 line)) }
+    ensures no_memory { result ≡ Status.NoMemory → Wrote (K.written out.old) (K.written out.new) (codes "error memory\n") }
+
+    // Where the sink failed, a first part of the text that was due was written, and the sink's count says that it failed.
+    ensures write_fault { result ≡ Status.WriteFault → Rose (K.faults out.old) (K.faults out.new)
+        × ((status : Status) × (text : List ℕ) × (n : ℕ)
+            × IsDue (map string_bytes words.now) (reading (S.left src.old) (S.left src.new) (S.faults src.old) (S.faults src.new)) status text
+            × Wrote (K.written out.old) (K.written out.new) (take n text)) }
+
+    // Where nothing is amiss, the run is carried out, unless memory runs out.
+    ensures complete { (bytes code : List ℕ) → map string_bytes words.now ≡ codes "run" ∷ [] → S.left src.old ≡ Some bytes
+        → length bytes ≤ input_limit → IsProgram bytes code
+        → ¬ (Rose (S.faults src.old) (S.faults src.new)) → ¬ (Rose (K.faults out.old) (K.faults out.new))
+        → (result ≡ Status.Done) ⊎ (result ≡ Status.NoMemory) }
+
+    // The counts of faults never fall.
+    ensures source_grows { S.faults src.old ≤ S.faults src.new }
+    ensures sink_grows { K.faults out.old ≤ K.faults out.new }
+{
+    // No line is both read and refused, which `complete` rests on.
+    one_meaning();
+    let due = decide(alloc, words, src);
+    match write_all(out, text_bytes(&due.text)) {
+        Ok(()) => due.status,
+        Err(_) => Status::WriteFault,
+    }
+}

@@ -64,10 +64,18 @@ pub fn print_trace(alloc: Global, lines: &[Line]) -> Result<String, NoMemory>
     ensures { IfOk result (λ text. string_bytes text ≡ lines_text lines.now) }
 {
     let mut text = String::new(alloc);
-    for line in lines {
-        put_line(&mut text, line)?;
-    }
+    put_trace(&mut text, lines)?;
     Ok(text)
+}
+
+/// Puts the text of the lines at the end. Its only refusal is `NoMemory`, and then some of it may stand there.
+pub fn put_trace(text: &mut String, lines: &[Line]) -> Result<(), NoMemory>
+    ensures { OnOk result (string_bytes text.new ≡ string_bytes text.old ++ lines_text lines.now) }
+{
+    for line in lines {
+        put_line(text, line)?;
+    }
+    Ok(())
 }
 
 /// Puts the text of a line at the end.

@@ -1,8 +1,6 @@
-use mathlib.Core.Bool.{◌||◌}
-use Rattle.std.proofs.Common.{◌≡◌, ℕ, ◌+◌, ◌<◌, List, ◌∷◌, ◌++◌, length, Bool, true, false, sym, ap, subst, ◌∙◌, arith, codes}
+use Rattle.std.proofs.Common.{◌≡◌, ℕ, ◌<◌, List, ◌∷◌, ◌++◌, length, Bool, true, false, sym, ap, subst, ◌∙◌, arith, codes}
 use Rattle.std.specs.List.{position_or_len, before_first, after_first}
-use Rattle.em_asm.specs.Pieces.{is_space, is_comma, IsWord, trimmed, unindented}
-use Rattle.em_asm.specs.Line.{AreLoadOperands}
+use Rattle.em_asm.specs.Pieces.{is_space, is_comma, trimmed, unindented}
 use Rattle.em_asm.proofs.Operands.{Found, found-from_operands, operands-from_found}
 use Rattle.em_asm.proofs.reading.load_operands.Goals as goal
 
@@ -54,6 +52,7 @@ returns-clause-complete c = λ name digits a n d.
     let first = c.in_ok-first.first.now in
     let rest = c.in_ok-first.rest.now in
     let split : c.args.text.now ≡ codes "li" ++ (first ∷ rest) = c.in_ok-operands.ensures ∙ ap (λ t. codes "li" ++ t) c.in_ok-first.ensures.cases.0 in
-    let same = same_rest c.args.text.now rest name digits first split f in
-    (c.trim.ensures ∙ ap trimmed (c.in_ok-name.ensures.1 ∙ ap (before_first is_comma) same) ∙ f.name_is,
-     c.skip_blanks.ensures ∙ ap unindented (c.in_ok-name.ensures.2 ∙ ap (after_first is_comma) same) ∙ f.digits_are)
+    let same = same_rest c.args.text.now rest name digits first split f in (
+      c.trim.ensures ∙ ap trimmed (c.in_ok-name.ensures.1 ∙ ap (before_first is_comma) same) ∙ f.name_is,
+      c.skip_blanks.ensures ∙ ap unindented (c.in_ok-name.ensures.2 ∙ ap (after_first is_comma) same) ∙ f.digits_are,
+    )

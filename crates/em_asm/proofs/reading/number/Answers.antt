@@ -1,5 +1,4 @@
-use Rattle.std.proofs.Common.{None, Some}
-use Rattle.em_asm.proofs.Words.{utf8-number}
+use Rattle.em_asm.proofs.Ascii.{utf8-number}
 use Rattle.em_asm.proofs.reading.number.Goals as goal
 
 pub returns-in-Err-clause-complete : goal.returns-in-Err-clause-complete

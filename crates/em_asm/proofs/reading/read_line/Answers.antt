@@ -1,4 +1,4 @@
-use Rattle.std.proofs.Common.{◌≡◌, ◌<◌, ◌∙◌, [], ◌∷◌, refl, List, ℕ, length, Option, Some, None, IfSome, sym, ap, subst, arith, rules}
+use Rattle.std.proofs.Common.{◌≡◌, ◌<◌, ◌∙◌, [], ◌∷◌, refl, List, ℕ, length, Option, Some, None, IfSome, sym, ap, subst, arith}
 use Rattle.std.proofs.lemmas.Bool.Decides.{nat_tests}
 use Rattle.em_asm.specs.declared.reading.Item.{Item}
 use Rattle.em_asm.specs.Pieces.{trimmed}

@@ -1,6 +1,5 @@
-use Rattle.std.proofs.Common.{◌≡◌, Option, Some, None, List, map, refl, sym, ap, ◌∙◌, codes, false, true, ℕ}
+use Rattle.std.proofs.Common.{sym, ap, ◌∙◌}
 use Rattle.std.specs.Str.{bytes_eq}
-use Rattle.em_asm.specs.Registers.{register_of, place_among, numbered_names, convention_names}
 use Rattle.em_asm.proofs.Naming.{register_of-fp, register_of-numbered, register_of-by_use}
 use Rattle.em_asm.proofs.registers.register.Goals as goal
 

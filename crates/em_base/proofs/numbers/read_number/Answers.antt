@@ -1,4 +1,4 @@
-use Rattle.std.proofs.Common.{◌≡◌, ℕ, ℤ, ◌<◌, ◌^◌, List, ◌∷◌, ◌++◌, Option, Some, None, pos, neg_ℤ, inl, inr, subst, ap, sym, ◌∙◌, arith, codes}
+use Rattle.std.proofs.Common.{◌≡◌, ℕ, ℤ, ◌<◌, ◌^◌, List, ◌++◌, Some, None, pos, neg_ℤ, inl, inr, subst, sym, ◌∙◌, arith, codes}
 use Rattle.std.proofs.lemmas.Int.{ints}
 use Rattle.std.proofs.lemmas.Grind.{common_steps}
 use Rattle.std.specs.Int.{w128}
@@ -28,15 +28,15 @@ behind front a b e = cc
 
 no_number_after_minus : (text rest : List ℕ) (z : ℤ) → text ≡ codes "-" ++ rest → Lacks rest → IsNumber text z → FitsSigned w128 z → ⊥
 no_number_after_minus text rest z e lacks spelled fits = elim spelled [
-    inl p ↦ unsigned text rest p.0 e p.1
+  | inl p ↦ unsigned text rest p.0 e p.1
   | inr p ↦ missing p.0 (lacks p.0 (subst (λ t. IsMagnitude t p.0) (behind text p.1 rest (sym p.2 ∙ e)) p.3) (small_below_zero p.0 z p.4 fits))
-  ]
+]
 
 no_number : (text : List ℕ) (z : ℤ) → ((rest : List ℕ) → text ≡ codes "-" ++ rest → ⊥) → Lacks text → IsNumber text z → FitsSigned w128 z → ⊥
 no_number text z plain lacks spelled fits = elim spelled [
-    inl p ↦ missing p.0 (lacks p.0 p.1 (small p.0 z p.2 fits))
+  | inl p ↦ missing p.0 (lacks p.0 p.1 (small p.0 z p.2 fits))
   | inr p ↦ plain p.1 p.2
-  ]
+]
 
 pub returns-in-None-magnitude-clause-exact : goal.returns-in-None-magnitude-clause-exact
 returns-in-None-magnitude-clause-exact c =

@@ -1,4 +1,4 @@
-use Rattle.std.proofs.Common.{◌≡◌, ℕ, Ok, Err, sym, ap, ◌∙◌}
+use Rattle.std.proofs.Common.{ℕ, sym, ap, ◌∙◌}
 use Rattle.em_hart.specs.declared.answers.Class.TheVariants.{Memory as MemoryClass}
 use Rattle.em_hart.specs.declared.widths.Width.{Width}
 use Rattle.em_hart.specs.Hart.{Registers, with_register}
@@ -21,7 +21,7 @@ returns-in-Ok c =
     let after = c.wrote.ensures.whole ∙ ap (λ (x : ℕ). gone_on (with_register r d x)) value in
     ran _ MemoryClass _ r _ o m o m c.wrote.ensures.answer
     (load_ran (is_signed op) (bytes_in (width_of op)) c.args.address d c.in-Ok.number r o m read
-        ∙ sym (ap (λ (x : Registers). Ran MemoryClass x o m) after))
+    ∙ sym (ap (λ (x : Registers). Ran MemoryClass x o m) after))
 
 pub returns-in-Err : goal.returns-in-Err
 returns-in-Err c =

@@ -1,12 +1,12 @@
-use Rattle.std.proofs.Common.{◌≡◌, ℕ, ◌*◌, ◌%◌, ◌^◌, Bool, true, false, rules, sym, ap, subst, ◌∙◌, arith}
+use Rattle.std.proofs.Common.{◌≡◌, ℕ, Bool, rules, sym, ap, subst, ◌∙◌, arith}
 use Rattle.std.specs.Int.{w32}
 use Rattle.std.proofs.lemmas.Int.{to_z-of_z}
 use Rattle.em_isa.specs.declared.instructions.Instr.{Instr}
 use Rattle.em_isa.specs.Encoding.{Fits}
-use Rattle.em_hart.specs.Hart.{Registers, Memory, register, with_register}
+use Rattle.em_hart.specs.Hart.{register, with_register}
 use Rattle.em_hart.specs.Widths.{bytes_in}
 use Rattle.em_hart.specs.Effect.{loads, stores, sum, even}
-use Rattle.em_hart.specs.Instruction.{Outcome, done, taken}
+use Rattle.em_hart.specs.Instruction.{done, taken}
 use Rattle.em_hart.specs.Decoded.{exec_instr, compared, computed, is_signed, width_of, modulo}
 use Rattle.em_hart.proofs.Signs.{moved, upper_moved, bit_cleared}
 use Rattle.em_hart.proofs.Reported.{along, unchanged, wrote, passed, not_taken, was_taken}
@@ -97,9 +97,9 @@ returns-in-Store-clause-step c =
     let number = c.get-number.ensures in
     along _ _ _ r _ o m _ _ (ap (λ (i : Instr). exec_instr i r o m) c.in-Store.is)
     (along _ _ _ r _ o m _ _
-        (ap (λ (x : ℕ). done (stores n (sum (register r c.in-Store.rs1) (modulo c.in-Store.imm)) x) 0 r o m) (sym number)
-            ∙ ap (λ (a : ℕ). done (stores n a c.get-number.result) 0 r o m) (sym address))
-        c.store.ensures.step)
+    (ap (λ (x : ℕ). done (stores n (sum (register r c.in-Store.rs1) (modulo c.in-Store.imm)) x) 0 r o m) (sym number)
+    ∙ ap (λ (a : ℕ). done (stores n a c.get-number.result) 0 r o m) (sym address))
+    c.store.ensures.step)
 
 pub returns-in-OpImm-clause-step : goal.returns-in-OpImm-clause-step
 returns-in-OpImm-clause-step c =
