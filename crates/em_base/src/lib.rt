@@ -9,6 +9,8 @@ pub mod list;
 pub mod memory;
 pub mod numbers;
 pub mod refusals;
+#[cfg(test)]
+mod tests;
 pub mod text;
 
 pub use ids::{MsgId, PortId, SemId, TaskId};

@@ -73,21 +73,21 @@ Refuses lines place count = (item : Item) → StandsFor (get_or lines place []) 
 
 still_refused : (ds : List (List ℕ)) (l m : List ℕ) (ls ms : List (List ℕ)) (place count : ℕ) → Silent m → place ≤ length ds → (suc place ≤ length ds) ⊎ (length ds < suc place) → Refuses (ds ++ l ∷ ls) place count → Refuses (ds ++ m ∷ ms) place count
 still_refused ds l m ls ms place count sm h o f = λ item s. elim o [
-    inl p ↦ f item (subst (λ t. StandsFor t item) (same_line ds l m ls ms place p) s)
+  | inl p ↦ f item (subst (λ t. StandsFor t item) (same_line ds l m ls ms place p) s)
   | inr p ↦ absurd (sm item (subst (λ t. StandsFor t item) (own_line ds m ms place (omega arith)) s))
-  ]
+]
 
 -- where a silent line follows, what is refused is refused there at the latest, whatever comes in its place
 moved : (ds : List (List ℕ)) (l m : List ℕ) (ls ms : List (List ℕ)) (place : ℕ) → Silent l → Silent m → IsFirstRefused (ds ++ l ∷ ls) place → IsFirstRefused (ds ++ m ∷ ms) place
 moved ds l m ls ms place sl sm f = elim (order place (length ds)) [
-    inl h ↦ record {
-      within = omega (arith, length-append ds (m ∷ ms));
-      words = f.words;
-      before = subst (λ t. AreWordsOf t f.words) (shorter place ds (l ∷ ls) h ∙ sym (shorter place ds (m ∷ ms) h)) f.before;
-      refused = still_refused ds l m ls ms place (length f.words) sm h (order (suc place) (length ds)) f.refused;
-    }
+  | inl h ↦ record {
+    within = omega (arith, length-append ds (m ∷ ms));
+    words = f.words;
+    before = subst (λ t. AreWordsOf t f.words) (shorter place ds (l ∷ ls) h ∙ sym (shorter place ds (m ∷ ms) h)) f.before;
+    refused = still_refused ds l m ls ms place (length f.words) sm h (order (suc place) (length ds)) f.refused;
+  }
   | inr h ↦ absurd (not_later ds l ls place f.words sl h f.before)
-  ]
+]
 
 header_stays : (ds : List (List ℕ)) (l m : List ℕ) (ls ms rest : List (List ℕ)) → NotAscii m → ds ++ m ∷ ms ≡ codes "%code" ∷ rest → (others : List (List ℕ)) × (ds ++ l ∷ ls ≡ codes "%code" ∷ others)
 header_stays [] l m ls ms rest high e = absurd (not_header m high (first_of m (codes "%code") ms rest e))
@@ -96,17 +96,19 @@ header_stays (d ∷ ds) l m ls ms rest high e = (ds ++ l ∷ ls, ap (λ h. h ∷
 after_header : (ds : List (List ℕ)) (l m : List ℕ) (ls ms rest : List (List ℕ)) (place : ℕ) → NotAscii l → Silent l → Silent m → ds ++ l ∷ ls ≡ codes "%code" ∷ rest → IsFirstRefused rest place
     → (others : List (List ℕ)) × (ds ++ m ∷ ms ≡ codes "%code" ∷ others) × IsFirstRefused others place
 after_header [] l m ls ms rest place high sl sm e f = absurd (not_header l high (first_of l (codes "%code") ls rest e))
-after_header (d ∷ ds) l m ls ms rest place high sl sm e f =
-    (ds ++ m ∷ ms, ap (λ h. h ∷ (ds ++ m ∷ ms)) (first_of d (codes "%code") (ds ++ l ∷ ls) rest e),
-     moved ds l m ls ms place sl sm (subst (λ t. IsFirstRefused t place) (sym (rest_of d (codes "%code") (ds ++ l ∷ ls) rest e)) f))
+after_header (d ∷ ds) l m ls ms rest place high sl sm e f = (
+  ds ++ m ∷ ms,
+  ap (λ h. h ∷ (ds ++ m ∷ ms)) (first_of d (codes "%code") (ds ++ l ∷ ls) rest e),
+  moved ds l m ls ms place sl sm (subst (λ t. IsFirstRefused t place) (sym (rest_of d (codes "%code") (ds ++ l ∷ ls) rest e)) f),
+)
 
 refused_alike : (done : List (List ℕ)) (text bytes : List ℕ) (line : ℕ) (h : HighLine done text) (k : HighLine done bytes) → Silent h.line → Silent k.line → IsRefusedAt text line → IsRefusedAt bytes line
 refused_alike done text bytes line h k sh sk r = elim r [
-    inl p ↦ inl (λ rest e. let s = header_stays done h.line k.line h.more k.more rest k.high (sym k.at ∙ e) in p.0 s.0 (h.at ∙ s.1), p.1)
+  | inl p ↦ inl (λ rest e. let s = header_stays done h.line k.line h.more k.more rest k.high (sym k.at ∙ e) in p.0 s.0 (h.at ∙ s.1), p.1)
   | inr p ↦
-    let s = after_header done h.line k.line h.more k.more p.0 p.1 h.high sh sk (sym h.at ∙ p.2) p.3 in
-    inr (s.0, p.1, k.at ∙ s.1, s.2, p.4)
-  ]
+      let s = after_header done h.line k.line h.more k.more p.0 p.1 h.high sh sk (sym h.at ∙ p.2) p.3 in
+      inr (s.0, p.1, k.at ∙ s.1, s.2, p.4)
+]
 
 -- ---- a text that goes on with a byte that is no ASCII is refused as far as it is known
 

@@ -59,9 +59,9 @@ rest_of a cs ds e = cc
 
 pub program_not_refused : OneMeaning → (bytes code : List ℕ) (line : ℕ) → IsProgram bytes code → IsRefusedAt bytes line → ⊥
 program_not_refused one bytes code line p r = elim r [
-    inl h ↦ h.0 p.rest p.headed
+  | inl h ↦ h.0 p.rest p.headed
   | inr h ↦ words_not_refused one p.rest code h.1 p.assembled (subst (λ t. IsFirstRefused t h.1) (rest_of (codes "%code") h.0 p.rest (sym h.2 ∙ p.headed)) h.3)
-  ]
+]
 
 -- ---- what was read, where the source tells it
 

@@ -94,7 +94,7 @@ stripped z some h true e =
     let last_is : get_or z (length z - 1) 0 ≡ 13 = grind (arith, nat_tests, e) in
     let shape : z ≡ take (length z - 1) z ++ (13 ∷ []) = sym (take-append-drop (length z - 1) z) ∙ ap (λ t. take (length z - 1) z ++ t) (drop_last z some ∙ ap (λ x. x ∷ []) last_is) in
     either_false (list_all is_small (take (length z - 1) z)) (list_all is_small (13 ∷ []))
-        (sym (list_all-append is_small (take (length z - 1) z) (13 ∷ [])) ∙ ap (list_all is_small) (sym shape) ∙ h) refl
+    (sym (list_all-append is_small (take (length z - 1) z) (13 ∷ [])) ∙ ap (list_all is_small) (sym shape) ∙ h) refl
   where
     drop_last : (z : List ℕ) → 0 < length z → drop (length z - 1) z ≡ get_or z (length z - 1) 0 ∷ []
     drop_last z some =
@@ -125,15 +125,15 @@ begun front =
     record {
       done = map strip_carriage_return p.parts;
       goes_on = λ c rest k.
-        let t = p.goes_on c rest (no_newline c k) in
-        let some : 0 < length (p.last ++ c ∷ t.tail) = omega (arith, length-append p.last (c ∷ t.tail)) in
-        let f = first_high (p.last ++ c ∷ t.tail) t.more some (has_high p.last t.tail c k) in
-        record {
-          line = f.0;
-          more = f.1;
-          at = ap lines_of_parts t.at ∙ lines-parts p.parts (p.last ++ c ∷ t.tail) t.more ∙ ap (λ ls. map strip_carriage_return p.parts ++ ls) f.2;
-          high = f.3;
-        };
+          let t = p.goes_on c rest (no_newline c k) in
+          let some : 0 < length (p.last ++ c ∷ t.tail) = omega (arith, length-append p.last (c ∷ t.tail)) in
+          let f = first_high (p.last ++ c ∷ t.tail) t.more some (has_high p.last t.tail c k) in
+          record {
+            line = f.0;
+            more = f.1;
+            at = ap lines_of_parts t.at ∙ lines-parts p.parts (p.last ++ c ∷ t.tail) t.more ∙ ap (λ ls. map strip_carriage_return p.parts ++ ls) f.2;
+            high = f.3;
+          };
     }
   where
     no_newline : (c : ℕ) → is_small c ≡ false → is_newline c ≡ false

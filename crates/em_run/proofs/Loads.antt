@@ -60,9 +60,10 @@ silent only line high item s = let t : true ≡ false = sym (only line item s) �
 -- the refusal of the text with another byte in that place is that of the bytes
 pub refusal_there : (front bytes text others : List ℕ) (n c : ℕ) (fail : Fail) → IsValidUpTo bytes n → front ≡ take n bytes → text ≡ front ++ c ∷ others → is_small c ≡ false
     → ((line : List ℕ) (item : Item) → StandsFor line item → list_all is_small line ≡ true) → IsRefusalOf text fail → IsRefusalOf bytes fail
-refusal_there front bytes text others n c (Refused refusal) h f e high only r =
-    (r.0,
-     subst (λ t. IsRefusedAt t refusal.line) (sym (split_there bytes n h.short))
-        (refused_there (take n bytes) others (drop (suc n) bytes) c (get_or bytes n 0) refusal.line high (high_there bytes n h) (silent only)
-            (subst (λ t. IsRefusedAt t refusal.line) (e ∙ ap (λ t. t ++ c ∷ others) f) r.1)))
+refusal_there front bytes text others n c (Refused refusal) h f e high only r = (
+  r.0,
+  subst (λ t. IsRefusedAt t refusal.line) (sym (split_there bytes n h.short))
+      (refused_there (take n bytes) others (drop (suc n) bytes) c (get_or bytes n 0) refusal.line high (high_there bytes n h) (silent only)
+      (subst (λ t. IsRefusedAt t refusal.line) (e ∙ ap (λ t. t ++ c ∷ others) f) r.1)),
+)
 refusal_there front bytes text others n c NoMemory h f e high only r = tt

@@ -1,16 +1,13 @@
 //! The top call: the words, the source and the sink of the program, and all that it does between them.
 #![tactic(auto)]
 
-
 pub mod answer;
 pub mod machine;
 pub mod program;
 pub mod status;
 pub mod top;
-
 pub mod trace;
 
 pub use status::Status;
 pub use top::emeralds;
-
 pub use trace::{Line, print_trace};

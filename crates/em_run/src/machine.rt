@@ -140,12 +140,15 @@ impl Machine {
         }
         self.ports[port as usize] = word;
         self.answer(0);
-        self.lines.push(alloc, Line::Out {
-            task: TASK,
-            port: PortId(port as u8),
-            word,
-            value: word,
-        })
+        self.lines.push(
+            alloc,
+            Line::Out {
+                task: TASK,
+                port: PortId(port as u8),
+                word,
+                value: word,
+            },
+        )
     }
 
     /// The call exit: the task is stopped.
@@ -162,11 +165,14 @@ impl Machine {
         ensures { OnOk result (state_of self.new ≡ after_call (Refuses code) (state_of self.old)) }
     {
         self.answer(i32::from(code).cast_unsigned());
-        self.lines.push(alloc, Line::Refused {
-            task: TASK,
-            call,
-            code,
-        })
+        self.lines.push(
+            alloc,
+            Line::Refused {
+                task: TASK,
+                call,
+                code,
+            },
+        )
     }
 
     /// Puts an answer into a0, and moves on to the instruction after the call.
@@ -183,11 +189,14 @@ impl Machine {
         ensures { OnOk result (state_of self.new ≡ after_instruction (Fault cause) (state_of self.old)) }
     {
         self.stopped = true;
-        self.lines.push(alloc, Line::Faulted {
-            task: TASK,
-            cause,
-            pc,
-            sem: None,
-        })
+        self.lines.push(
+            alloc,
+            Line::Faulted {
+                task: TASK,
+                cause,
+                pc,
+                sem: None,
+            },
+        )
     }
 }

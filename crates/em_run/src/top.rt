@@ -45,8 +45,8 @@ pub fn emeralds<S: Source, K: Sink>(
     // Where the sink failed, a first part of the text that was due was written, and the sink's count says that it failed.
     ensures write_fault { result ≡ Status.WriteFault → Rose (K.faults out.old) (K.faults out.new)
         × ((status : Status) × (text : List ℕ) × (n : ℕ)
-            × IsDue (map string_bytes words.now) (reading (S.left src.old) (S.left src.new) (S.faults src.old) (S.faults src.new)) status text
-            × Wrote (K.written out.old) (K.written out.new) (take n text)) }
+        × IsDue (map string_bytes words.now) (reading (S.left src.old) (S.left src.new) (S.faults src.old) (S.faults src.new)) status text
+        × Wrote (K.written out.old) (K.written out.new) (take n text)) }
 
     // Where nothing is amiss, the run is carried out, unless memory runs out.
     ensures complete { (bytes code : List ℕ) → map string_bytes words.now ≡ codes "run" ∷ [] → S.left src.old ≡ Some bytes

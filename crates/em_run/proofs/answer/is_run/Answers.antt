@@ -21,6 +21,7 @@ told_text a b e = search (rules, bytes_eq-Decides, e)
 
 pub returns-then-words-eq1 : goal.returns-then-words-eq1
 returns-then-words-eq1 c =
-    let words : map string_bytes c.args.words.now ≡ c.as_str.result.now ∷ [] = single string_bytes c.args.words.now c.index-words-0.result c.if-words-eq1.true c.index-words-0.is ∙ ap (λ t. t ∷ []) (sym c.as_str.ensures.value) in
-    (λ h. words ∙ ap (λ t. t ∷ []) (same_text c.as_str.result.now (codes "run") (sym c.eq.ensures ∙ h)),
-     λ e. c.eq.ensures ∙ told_text c.as_str.result.now (codes "run") (first_of c.as_str.result.now (codes "run") (sym words ∙ e)))
+    let words : map string_bytes c.args.words.now ≡ c.as_str.result.now ∷ [] = single string_bytes c.args.words.now c.index-words-0.result c.if-words-eq1.true c.index-words-0.is ∙ ap (λ t. t ∷ []) (sym c.as_str.ensures.value) in (
+      λ h. words ∙ ap (λ t. t ∷ []) (same_text c.as_str.result.now (codes "run") (sym c.eq.ensures ∙ h)),
+      λ e. c.eq.ensures ∙ told_text c.as_str.result.now (codes "run") (first_of c.as_str.result.now (codes "run") (sym words ∙ e)),
+    )

@@ -1,0 +1,123 @@
+//! Sources and sinks that hand over pieces and fail, inputs that are too long, and what was written by then.
+
+use crate::calls::{ROOM, called, source};
+use em_io::MemSink;
+use em_run::Status;
+use std::test::Fail;
+
+/// One word put to a port.
+const INPUT: &[u8] = b"%code\nli a7, 4\nli a0, 0\nli a1, 7\necall\nli a7, 8\necall\n";
+
+/// What it comes to.
+const OUTPUT: &[u8] = b"%trace\nrel 0 1 0 0\nout 0 0 7 7\nexit 0\n";
+
+#[test]
+fn pieces_of_any_size(rt: HostRuntime) -> Result<(), Fail> {
+    let alloc = rt.alloc();
+    for piece in [1usize, 7, 4096] {
+        let mut src = source(alloc, INPUT, &[], piece)?;
+        let mut out = MemSink::new(alloc, ROOM, Vec::new(alloc), piece)?;
+        assert_eq!(rt;
+            called(alloc, "run", &mut src, &mut out)?,
+            Status::Done,
+            "{piece}"
+        );
+        assert_eq!(rt; out.written(), OUTPUT, "{piece}");
+    }
+    Ok(())
+}
+
+#[test]
+fn failing_calls(rt: HostRuntime) -> Result<(), Fail> {
+    let alloc = rt.alloc();
+    for call in 1..6u64 {
+        let mut src = source(alloc, INPUT, &[call], 10)?;
+        let mut out = MemSink::new(alloc, ROOM, Vec::new(alloc), 4096)?;
+        assert_eq!(rt;
+            called(alloc, "run", &mut src, &mut out)?,
+            Status::ReadFault,
+            "{call}"
+        );
+        assert_eq!(rt; out.written(), b"error read\n".as_slice(), "{call}");
+        assert_eq!(rt; src.faults(), 1, "{call}");
+    }
+    for (shows, read_fails, write_fails, piece, written, status) in [
+        (
+            "the first read",
+            [1u64].as_slice(),
+            [].as_slice(),
+            4096usize,
+            b"error read\n".as_slice(),
+            Status::ReadFault,
+        ),
+        (
+            "the first write",
+            [].as_slice(),
+            [1u64].as_slice(),
+            4096,
+            b"".as_slice(),
+            Status::WriteFault,
+        ),
+        (
+            "the third write",
+            [].as_slice(),
+            [3u64].as_slice(),
+            10,
+            b"%trace\nrel 0 1 0 0\no".as_slice(),
+            Status::WriteFault,
+        ),
+        (
+            "both at the first",
+            [1u64].as_slice(),
+            [1u64].as_slice(),
+            4096,
+            b"".as_slice(),
+            Status::WriteFault,
+        ),
+    ] {
+        let mut src = source(alloc, INPUT, read_fails, 4096)?;
+        let mut out = MemSink::new(alloc, ROOM, Vec::from_slice(alloc, write_fails)?, piece)?;
+        assert_eq!(rt;
+            called(alloc, "run", &mut src, &mut out)?,
+            status,
+            "{shows}"
+        );
+        assert_eq!(rt; out.written(), written, "{shows}");
+    }
+    Ok(())
+}
+
+#[test]
+fn no_words_read_nothing(rt: HostRuntime) -> Result<(), Fail> {
+    let alloc = rt.alloc();
+    let mut src = source(alloc, INPUT, &[1], 4096)?;
+    let mut out = MemSink::new(alloc, ROOM, Vec::new(alloc), 4096)?;
+    assert_eq!(rt; called(alloc, "", &mut src, &mut out)?, Status::Usage);
+    assert_eq!(rt; out.written(), b"error usage\n".as_slice());
+    assert_eq!(rt; src.faults(), 0);
+    Ok(())
+}
+
+#[test]
+fn one_byte_too_many(rt: HostRuntime) -> Result<(), Fail> {
+    let alloc = rt.alloc();
+    for (length, text, status) in [
+        (
+            16_777_216usize,
+            b"error 60 line 1\n".as_slice(),
+            Status::Malformed,
+        ),
+        (16_777_217, b"error too long\n".as_slice(), Status::TooLong),
+    ] {
+        let bytes = vec![in alloc; b'#'; length]?;
+        let mut src = source(alloc, bytes.as_slice(), &[], 65_536)?;
+        let mut out = MemSink::new(alloc, ROOM, Vec::new(alloc), 4096)?;
+        assert_eq!(rt;
+            called(alloc, "run", &mut src, &mut out)?,
+            status,
+            "{length}"
+        );
+        assert_eq!(rt; out.written(), text, "{length}");
+    }
+    Ok(())
+}
