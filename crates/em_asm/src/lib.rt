@@ -6,6 +6,8 @@ pub mod laws;
 pub mod pieces;
 pub mod reading;
 pub mod registers;
+#[cfg(test)]
+mod tests;
 
 pub use assembling::assemble;
 pub use laws::{one_meaning, only_ascii_stands};

@@ -10,6 +10,7 @@ set_next front xs m b l h =
     ∙ set_at front (get_or xs m 0) (drop (m + 1) xs) b m l
     ∙ sym (append_assoc front (b ∷ []) (drop (m + 1) xs))
 
+-- one, two and four bytes that are written in a row
 put_one : (xs : List ℕ) (p a : ℕ) → p < length xs → set xs p a ≡ take p xs ++ (a ∷ []) ++ drop (p + 1) xs
 put_one xs p a h =
     ap (λ (whole : List ℕ). set whole p a) (sym (take-append-drop p xs))

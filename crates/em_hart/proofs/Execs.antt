@@ -6,6 +6,7 @@ use Rattle.em_hart.specs.Hart.{Registers, Memory}
 use Rattle.em_hart.specs.Listing.{Mnemonic, mnemonic}
 use Rattle.em_hart.specs.Instruction.{Fault, exec, carried_out, is_inside_code, outside_code, no_instruction}
 
+-- what the code tests tells whether the address is inside
 outside : (code : List ℕ) (p : ℕ) → (p % 4 ≡ 0 → ⊥) ⊎ ((p % 4 ≡ 0) × (length code ≤ p / 4)) → is_inside_code code p ≡ false
 outside code p (inl h) = and_left _ _ (ne_eqb (p % 4) 0 h)
 outside code p (inr h) = and_right _ _ (le-ltb p (4 * length code) (omega arith))

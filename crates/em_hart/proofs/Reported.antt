@@ -1,5 +1,5 @@
 -- What an answer reports, by the ways in which instructions end.
-use Rattle.std.proofs.Common.{◌≡◌, ℕ, ◌%◌, Bool, true, false, eqb, cond, Ok, Err, refl, sym, ap, subst, ◌∙◌}
+use Rattle.std.proofs.Common.{◌≡◌, ℕ, ◌%◌, Bool, true, false, not, eqb, cond, Ok, Err, refl, sym, ap, subst, ◌∙◌}
 use Rattle.em_hart.specs.declared.answers.Class.{Class}
 use Rattle.em_hart.specs.declared.answers.Class.TheVariants.{Plain, Memory as MemoryClass}
 use Rattle.em_hart.specs.declared.answers.Stepped.{Stepped}
@@ -17,6 +17,7 @@ unchanged r o m = record { same_registers = refl; same_own = refl; same_shared =
 pub along : (s : Stepped) (a b : Outcome) (r r' : Registers) (o m o' m' : Memory) → a ≡ b → Reports s b r o m r' o' m' → Reports s a r o m r' o' m'
 along s a b r r' o m o' m' e h = subst (λ (x : Outcome). Reports s x r o m r' o' m') (sym e) h
 
+-- the report of an instruction that was carried out
 pub ran : (s : Stepped) (class : Class) (a : Outcome) (r r' : Registers) (o m o' m' : Memory) → s ≡ RanStep class → a ≡ Ran class r' o' m' → Reports s a r o m r' o' m'
 ran s class a r r' o m o' m' e h = subst (λ (x : Stepped). Reports x a r o m r' o' m') (sym e) h
 
@@ -45,33 +46,34 @@ was_taken s b t d r r' o m f h = along s _ (taken t r o m) r r' o m o m (ap (λ 
 
 -- ---- loads
 
-chosen : (x y z : Bool) (g : ℕ → Outcome) (v u e f c : ℕ) → cond x (cond y (Ok v) (cond z (Ok u) (Err e))) (Err f) ≡ Err c
-    → cond x (cond y (g v) (cond z (g u) (Fault e))) (Fault f) ≡ Fault c
+-- a refusal and a number of `read_of`, as `done` has them
+chosen : (x y z : Bool) (g : ℕ → Outcome) (v u e f c : ℕ) → cond (not x) (Err f) (cond y (Ok v) (cond z (Ok u) (Err e))) ≡ Err c
+    → cond (not x) (Fault f) (cond y (g v) (cond z (g u) (Fault e))) ≡ Fault c
 chosen true true z g v u e f c h = cc
 chosen true false true g v u e f c h = cc
 chosen true false false g v u e f c h = cc
 chosen false y z g v u e f c h = cc
 
-given : (x y z : Bool) (g : ℕ → Outcome) (v u e f c : ℕ) → cond x (cond y (Ok v) (cond z (Ok u) (Err e))) (Err f) ≡ Ok c
-    → cond x (cond y (g v) (cond z (g u) (Fault e))) (Fault f) ≡ g c
+given : (x y z : Bool) (g : ℕ → Outcome) (v u e f c : ℕ) → cond (not x) (Err f) (cond y (Ok v) (cond z (Ok u) (Err e))) ≡ Ok c
+    → cond (not x) (Fault f) (cond y (g v) (cond z (g u) (Fault e))) ≡ g c
 given true true z g v u e f c h = cc
 given true false true g v u e f c h = cc
 given true false false g v u e f c h = cc
 given false y z g v u e f c h = cc
 
-abbrev after_load : Bool → ℕ → ℕ → Registers → Memory → Memory → ℕ → Outcome
-after_load signed n d r o m v = Ran MemoryClass (gone_on (with_register r d (extended signed n v))) o m
+abbrev loaded_as : Bool → ℕ → ℕ → Registers → Memory → Memory → ℕ → Outcome
+loaded_as signed n d r o m v = Ran MemoryClass (gone_on (with_register r d (extended signed n v))) o m
 
 pub load_ran : (signed : Bool) (n a d c : ℕ) (r : Registers) (o m : Memory) → read_of o m n a ≡ Ok c
     → done (loads signed n a) d r o m ≡ Ran MemoryClass (gone_on (with_register r d (extended signed n c))) o m
 unfolding done read_of
 load_ran signed n a d c r o m h =
-    given (eqb (a % n) 0) (has_bytes o n a) (has_bytes m n a) (after_load signed n d r o m) (loaded o n a) (loaded m n a) outside_windows misaligned_data c h
+    given (eqb (a % n) 0) (has_bytes o n a) (has_bytes m n a) (loaded_as signed n d r o m) (loaded o n a) (loaded m n a) outside_windows misaligned_data c h
 
 pub load_refused : (signed : Bool) (n a d c : ℕ) (r : Registers) (o m : Memory) → read_of o m n a ≡ Err c → done (loads signed n a) d r o m ≡ Fault c
 unfolding done read_of
 load_refused signed n a d c r o m h =
-    chosen (eqb (a % n) 0) (has_bytes o n a) (has_bytes m n a) (after_load signed n d r o m) (loaded o n a) (loaded m n a) outside_windows misaligned_data c h
+    chosen (eqb (a % n) 0) (has_bytes o n a) (has_bytes m n a) (loaded_as signed n d r o m) (loaded o n a) (loaded m n a) outside_windows misaligned_data c h
 
 -- ---- stores
 

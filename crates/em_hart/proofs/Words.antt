@@ -1,19 +1,10 @@
--- A number that was put into bytes stands there, and the other numbers stand as before.
-use Rattle.std.proofs.Common.{◌≡◌, ◌≢◌, ℕ, ◌+◌, ◌-◌, ◌*◌, ◌^◌, ◌<◌, ◌≤◌, List, ◌++◌, length, take, drop, inl, inr, refl, sym, ap, ◌∙◌, arith}
-use Rattle.std.proofs.lemmas.List.{append_assoc, take_at, drop_at, drop-drop, drop-take, take-take, drop-append-le, take-append-le, length-append, length-take-le, length-drop}
+-- Where a number was put into bytes, the other numbers stand as before.
+use Rattle.std.proofs.Common.{◌≡◌, ◌≢◌, ℕ, ◌+◌, ◌-◌, ◌*◌, ◌≤◌, List, ◌++◌, length, take, drop, inl, inr, sym, ap, ◌∙◌, arith}
+use Rattle.std.proofs.lemmas.List.{append_assoc, drop_at, drop-drop, drop-take, take-take, drop-append-le, take-append-le, length-append, length-take-le, length-drop}
 use Rattle.std.proofs.lemmas.Bool.{cases_lt}
 use Rattle.em_hart.specs.Hart.{number_of, bytes_of, number_at, with_number}
 
-four_again : (w : ℕ) → w < 2 ^ 32 → number_of (bytes_of 4 w) ≡ w
-four_again w h = omega arith
-
-pub number_at-with_number_same : (bytes : List ℕ) (p w : ℕ) → p ≤ length bytes → w < 2 ^ 32 → number_at (with_number bytes 4 p w) 4 p ≡ w
-number_at-with_number_same bytes p w h l =
-    ap (λ (x : List ℕ). number_of (take 4 (drop p x))) (append_assoc (take p bytes) (bytes_of 4 w) (drop (p + 4) bytes))
-    ∙ ap (λ (x : List ℕ). number_of (take 4 x)) (drop_at (take p bytes) (bytes_of 4 w ++ drop (p + 4) bytes) p (length-take-le p bytes h))
-    ∙ ap number_of (take_at (bytes_of 4 w) (drop (p + 4) bytes) 4 refl)
-    ∙ four_again w l
-
+-- a word below the place that was written
 below : (bytes rest : List ℕ) (p q : ℕ) → q + 4 ≤ p → p ≤ length bytes → take 4 (drop q (take p bytes ++ rest)) ≡ take 4 (drop q bytes)
 below bytes rest p q h l =
     let len : length (take p bytes) ≡ p = length-take-le p bytes l in
@@ -24,6 +15,7 @@ below bytes rest p q h l =
     ∙ ap (take 4) (drop-take q (p - q) bytes)
     ∙ take-take 4 (p - q) (drop q bytes) (omega arith)
 
+-- what stands above it
 above : (bytes front : List ℕ) (p q : ℕ) → length front ≡ p + 4 → p + 4 ≤ q → drop q (front ++ drop (p + 4) bytes) ≡ drop q bytes
 above bytes front p q l h =
     let e : p + 4 + (q - (p + 4)) ≡ q = omega arith in

@@ -8,7 +8,7 @@ use Rattle.em_hart.specs.declared.widths.Width.TheVariants.{Byte, Half, Word}
 use Rattle.em_hart.specs.Hart.{Registers, Memory, register, has_bytes, loaded}
 use Rattle.em_hart.specs.Widths.{bytes_in}
 use Rattle.em_hart.specs.Effect.{Effect, writes, jumps, jumps_by_register, branches, loads, stores, passes, calls, breaks, sum, difference, is_less_signed, one_if, shifted_left, shifted_right, shifted_right_signed, amount, even}
-use Rattle.em_hart.specs.Instruction.{Outcome, done, misaligned_data, outside_windows}
+use Rattle.em_hart.specs.Instruction.{Outcome, done, is_aligned, misaligned_data, outside_windows}
 
 -- a signed number modulo 2^32
 abbrev pub modulo : ℤ → ℕ
@@ -47,12 +47,12 @@ is_signed op = nat_lt op 2
 -- what a load reads: the number in the n bytes from an address on, or the cause of its fault
 unfoldable pub read_of : Memory → Memory → ℕ → ℕ → Result ℕ ℕ
 read_of own shared n address =
-    if address % n == 0
-    then if has_bytes own n address
-    then Ok (loaded own n address)
-    else if has_bytes shared n address then Ok (loaded shared n address) else Err outside_windows
-    else Err misaligned_data
+    if not (is_aligned n address) then Err misaligned_data
+    else if has_bytes own n address then Ok (loaded own n address)
+    else if has_bytes shared n address then Ok (loaded shared n address)
+    else Err outside_windows
 
+-- the register that is written, and 0 where there is none
 abbrev pub rd_of : Instr → ℕ
 rd_of (Lui rd imm) = rd
 rd_of (Auipc rd imm) = rd
@@ -67,6 +67,7 @@ rd_of (Fence rd rs1 imm) = 0
 rd_of Ecall = 0
 rd_of Ebreak = 0
 
+-- the first register that is read, and 0 where there is none
 abbrev pub rs1_of : Instr → ℕ
 rs1_of (Lui rd imm) = 0
 rs1_of (Auipc rd imm) = 0
@@ -81,6 +82,7 @@ rs1_of (Fence rd rs1 imm) = 0
 rs1_of Ecall = 0
 rs1_of Ebreak = 0
 
+-- the second register that is read, and 0 where there is none
 abbrev pub rs2_of : Instr → ℕ
 rs2_of (Lui rd imm) = 0
 rs2_of (Auipc rd imm) = 0

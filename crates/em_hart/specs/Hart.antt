@@ -28,7 +28,8 @@ with_register registers r value =
 abbrev pub with_pc : Registers → ℕ → Registers
 with_pc registers pc = record registers { pc = pc }
 
--- ---- bytes of a window: little-endian, the byte at the lowest address counts least (1.4 "Memory")
+-- ---- bytes of a window: little-endian, the byte at the lowest address counts least. Section 2.6 leaves the order of
+-- bytes to the environment: this is this project's own choice
 
 -- the number that bytes stand for
 abbrev pub number_of : List ℕ → ℕ

@@ -1,7 +1,7 @@
 -- One instruction: what the word at the program counter does to the registers and the two windows.
 -- RISC-V unprivileged manual, RV32I version 2.1, over the tables of Listing and Effect; the causes of faults, and their
 -- order, are this project's own.
-use Rattle.std.specs.Prelude.{ℕ, ◌*◌, ◌/◌, ◌%◌, Bool, ◌&&◌, ◌==◌, nat_lt, List, length, slice_index, if◌then◌else◌, Option, Some, None}
+use Rattle.std.specs.Prelude.{ℕ, ◌*◌, ◌/◌, ◌%◌, Bool, not, ◌&&◌, ◌==◌, nat_lt, List, length, slice_index, if◌then◌else◌, Option, Some, None}
 use Rattle.em_hart.specs.declared.answers.Class.{Class}
 use Rattle.em_hart.specs.declared.answers.Class.TheVariants.{Plain, Memory as MemoryClass}
 use Rattle.em_hart.specs.Hart.{Registers, Memory, register, with_register, with_pc, has_bytes, loaded, stored}
@@ -63,6 +63,15 @@ taken target registers own shared =
 abbrev pub extended : Bool → ℕ → ℕ → ℕ
 extended signed n number = if signed then sign_extended (8 * n) number else number
 
+-- an address is a multiple of the size of its access
+abbrev pub is_aligned : ℕ → ℕ → Bool
+is_aligned n address = address % n == 0
+
+-- the registers after a load from a window
+abbrev pub after_load : Bool → ℕ → ℕ → ℕ → Memory → Registers → Registers
+after_load signed n address d memory registers =
+    gone_on (with_register registers d (extended signed n (loaded memory n address)))
+
 -- an instruction is carried out that has this effect and this destination
 unfoldable pub done : Effect → ℕ → Registers → Memory → Memory → Outcome
 done (writes value) d registers own shared = Ran Plain (gone_on (with_register registers d value)) own shared
@@ -71,21 +80,15 @@ done (jumps_by_register value target) d registers own shared = taken target (wit
 done (branches condition target) d registers own shared =
     if condition then taken target registers own shared else Ran Plain (gone_on registers) own shared
 done (loads signed n address) d registers own shared =
-    if address % n == 0
-    then if has_bytes own n address
-    then Ran MemoryClass (gone_on (with_register registers d (extended signed n (loaded own n address)))) own shared
-    else if has_bytes shared n address
-    then Ran MemoryClass (gone_on (with_register registers d (extended signed n (loaded shared n address)))) own shared
+    if not (is_aligned n address) then Fault misaligned_data
+    else if has_bytes own n address then Ran MemoryClass (after_load signed n address d own registers) own shared
+    else if has_bytes shared n address then Ran MemoryClass (after_load signed n address d shared registers) own shared
     else Fault outside_windows
-    else Fault misaligned_data
 done (stores n address value) d registers own shared =
-    if address % n == 0
-    then if has_bytes own n address
-    then Ran MemoryClass (gone_on registers) (stored own n address value) shared
-    else if has_bytes shared n address
-    then Ran MemoryClass (gone_on registers) own (stored shared n address value)
+    if not (is_aligned n address) then Fault misaligned_data
+    else if has_bytes own n address then Ran MemoryClass (gone_on registers) (stored own n address value) shared
+    else if has_bytes shared n address then Ran MemoryClass (gone_on registers) own (stored shared n address value)
     else Fault outside_windows
-    else Fault misaligned_data
 done passes d registers own shared = Ran Plain (gone_on registers) own shared
 done calls d registers own shared = Call
 done breaks d registers own shared = Fault breakpoint

@@ -1,5 +1,5 @@
 -- Bytes that are no UTF-8: where they are refused.
-use Rattle.std.proofs.Common.{◌≡◌, ◌≢◌, ◌⊎◌, nat_le, ℕ, zero, suc, ◌+◌, ◌-◌, ◌<◌, ◌≤◌, Bool, true, false, List, [], ◌∷◌, ◌++◌, length, take, drop, get_or, inl, inr, refl, sym, ap, subst, ◌∙◌, arith, append_assoc, append-nil, length-append, codes}
+use Rattle.std.proofs.Common.{◌≡◌, ◌⊎◌, nat_le, ℕ, suc, ◌+◌, ◌-◌, ◌<◌, ◌≤◌, Bool, true, false, List, [], ◌∷◌, ◌++◌, length, take, get_or, inl, inr, refl, sym, ap, subst, ◌∙◌, arith, length-append, codes}
 use Rattle.std.proofs.Math.ListN.{get_or-append}
 use Rattle.std.proofs.Math.Seq.{get_or-append_seam, take-append-add}
 use Rattle.std.proofs.lemmas.Bool.Decides.{nat_tests}
@@ -10,7 +10,7 @@ use Rattle.em_asm.specs.declared.reading.Item.{Item}
 use Rattle.em_asm.specs.Line.{StandsFor, words_of}
 use Rattle.em_asm.specs.Assembly.{AllStandFor, AreWordsOf, IsFirstRefused, most_words}
 use Rattle.em_run.specs.Program.{IsProgram, IsRefusedAt}
-use Rattle.em_run.proofs.Cuts.{NotAscii, is_small, HighLine, Begun, begun}
+use Rattle.em_run.proofs.Cuts.{NotAscii, is_small, HighLine, begun}
 
 -- a line that stands for nothing
 abbrev pub Silent : List ℕ → Type 0

@@ -1,15 +1,14 @@
 -- Where nothing is amiss, nothing but the run is due: a program isn't refused.
-use Rattle.std.proofs.Common.{◌≡◌, ◌≢◌, ◌⊎◌, ℕ, zero, suc, ◌+◌, ◌<◌, ◌≤◌, List, [], ◌∷◌, ◌++◌, length, take, get_or, Option, Some, None, inl, inr, refl, sym, ap, subst, ◌∙◌, arith, append-nil, length-append, codes}
+use Rattle.std.proofs.Common.{◌≡◌, ◌⊎◌, ℕ, zero, suc, ◌<◌, ◌≤◌, List, [], ◌∷◌, ◌++◌, length, take, get_or, Option, Some, None, inl, inr, refl, sym, ap, subst, ◌∙◌, arith, append-nil, length-append, codes}
 use Rattle.std.proofs.lemmas.Grind.{flat_map-append}
 use Rattle.std.specs.List.{flat_map}
-use Rattle.std.specs.Str.Lines.{lines}
-use Rattle.em_io.specs.Bytes.{input_limit, Rose, then_left, IsAtEnd, Took}
+use Rattle.em_io.specs.Bytes.{input_limit, Rose, then_left, IsAtEnd}
 use Rattle.em_asm.specs.declared.reading.Item.{Item}
 use Rattle.em_asm.specs.Line.{StandsFor, words_of}
-use Rattle.em_asm.specs.Assembly.{AllStandFor, AreWordsOf, IsFirstRefused, most_words}
+use Rattle.em_asm.specs.Assembly.{AllStandFor, AreWordsOf, IsFirstRefused}
 use Rattle.em_run.specs.declared.status.Status.{Status}
 use Rattle.em_run.specs.declared.status.Status.TheVariants.{Done, Usage, ReadFault, WriteFault, TooLong, Malformed, NoMemory}
-use Rattle.em_run.specs.Output.{IsDue, Reading, ReadsAll}
+use Rattle.em_run.specs.Output.{IsDue, Reading}
 use Rattle.em_run.specs.Program.{IsProgram, IsRefusedAt}
 
 -- a line stands for one thing at most

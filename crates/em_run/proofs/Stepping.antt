@@ -1,5 +1,5 @@
 -- How the steps of a run go on.
-use Rattle.std.proofs.Common.{◌≡◌, ℕ, zero, suc, ◌+◌, ◌≤◌, Bool, true, false, List, refl, sym, ap, ◌∙◌, arith, if◌then◌else◌}
+use Rattle.std.proofs.Common.{◌≡◌, ℕ, zero, suc, true, false, List, refl, ap, if◌then◌else◌}
 use Rattle.em_run.specs.Plain.{Plain, step, steps, goes_on}
 
 pub steps-none : (code : List ℕ) (p : Plain) → steps code 0 p ≡ p

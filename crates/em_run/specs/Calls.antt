@@ -1,7 +1,7 @@
 -- What a kernel call comes to, by the registers at the call: this project's own. The call's number is in a7 (x17), its
 -- operands are in a0 and a1 (x10 and x11), and its answer goes to a0. By now there are two calls, out and exit; every
 -- other number is unknown.
-use Rattle.std.specs.Prelude.{ℕ, ℤ, pos, negsuc, ◌==◌, nat_lt, if◌then◌else◌}
+use Rattle.std.specs.Prelude.{ℕ, ℤ, negsuc, ◌==◌, nat_lt, if◌then◌else◌}
 use Rattle.std.specs.Int.{w32, cast_unsigned}
 use Rattle.em_hart.specs.Hart.{Registers, register, with_register, with_pc}
 use Rattle.em_hart.specs.Effect.{sum}

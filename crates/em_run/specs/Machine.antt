@@ -1,7 +1,6 @@
 -- The plain state that a machine of the program stands for.
-use Rattle.std.specs.Prelude.{◌≡◌}
 use Rattle.em_run.specs.declared.machine.Machine.{Machine}
-use Rattle.em_run.specs.Plain.{Plain, own_base, shared_base}
+use Rattle.em_run.specs.Plain.{Plain}
 
 -- the state: field by field
 abbrev pub state_of : Machine → Plain

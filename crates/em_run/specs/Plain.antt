@@ -1,7 +1,6 @@
 -- The plain machine of one task, numbered 0, and its run: this project's own, over the meaning of one instruction.
-use Rattle.std.specs.Prelude.{ℕ, zero, suc, ◌+◌, ◌*◌, Bool, true, false, not, ◌&&◌, nat_lt, List, [], ◌∷◌, ◌++◌, length, replicate, slice_set, Option, None, if◌then◌else◌}
+use Rattle.std.specs.Prelude.{ℕ, zero, suc, Bool, true, false, not, ◌&&◌, nat_lt, List, [], ◌∷◌, ◌++◌, length, replicate, slice_set, None, if◌then◌else◌}
 use Rattle.em_base.specs.declared.ids.TaskId.{TaskId}
-use Rattle.em_base.specs.declared.ids.PortId.{PortId}
 use Rattle.em_hart.specs.Hart.{Registers, Memory, with_register}
 use Rattle.em_hart.specs.Instruction.{Outcome, Ran, Call, Fault, exec}
 use Rattle.em_run.specs.declared.trace.Line.{Line}

@@ -1,6 +1,6 @@
-use Rattle.std.proofs.Common.{◌≡◌, ℕ, suc, ◌+◌, ◌-◌, Bool, true, false, not, sym, ap, ◌∙◌, arith, add-one}
+use Rattle.std.proofs.Common.{◌≡◌, suc, ◌+◌, ◌-◌, true, false, sym, ap, ◌∙◌, arith}
 use Rattle.em_run.specs.Machine.{state_of}
-use Rattle.em_run.specs.Plain.{Plain, boot, released, step, steps, goes_on, most_steps}
+use Rattle.em_run.specs.Plain.{released, steps, goes_on, most_steps}
 use Rattle.em_run.proofs.Stepping.{steps-none, steps-ended, steps-more}
 use Rattle.em_run.proofs.machine.run.Goals as goal
 

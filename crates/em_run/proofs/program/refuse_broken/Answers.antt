@@ -1,5 +1,5 @@
-use Rattle.std.proofs.Common.{◌≡◌, ◌++◌, ◌∷◌, [], ℕ, List, take, refl, sym, ap, subst, ◌∙◌}
-use Rattle.em_run.specs.Program.{IsProgram, IsRefusalOf}
+use Rattle.std.proofs.Common.{◌≡◌, ◌++◌, ◌∷◌, [], refl, subst, ◌∙◌}
+use Rattle.em_run.specs.Program.{IsProgram}
 use Rattle.em_run.proofs.Broken.{no_program_there}
 use Rattle.em_run.proofs.Loads.{refusal_there, silent}
 use Rattle.em_run.proofs.program.refuse_broken.Goals as goal

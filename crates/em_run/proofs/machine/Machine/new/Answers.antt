@@ -1,4 +1,4 @@
-use Rattle.std.proofs.Common.{◌≡◌, ℕ, List, [], false, ap, ◌∙◌, replicate}
+use Rattle.std.proofs.Common.{◌≡◌, List, [], false, ap, ◌∙◌, replicate}
 use Rattle.em_hart.specs.Hart.{Registers, Memory}
 use Rattle.em_run.specs.declared.trace.Line.{Line}
 use Rattle.em_run.specs.Plain.{Plain, boot}
