@@ -81,7 +81,7 @@ pub complete : OneMeaning → (words : List (List ℕ)) (r : Reading) (s : Statu
 complete one words r Done text bytes code w told few p still d = inl refl
 complete one words r NoMemory text bytes code w told few p still d = inr refl
 complete one words r Usage text bytes code w told few p still d = absurd (d.0 w)
-complete one words r ReadFault text bytes code w told few p still d = absurd (still d.1)
+complete one words r ReadFault text bytes code w told few p still d = absurd (still d.2)
 complete one words r WriteFault text bytes code w told few p still d = absurd d
 complete one words r TooLong text bytes code w told few p still d =
     let within = took_all bytes d.1.0 r.left_after (sym told ∙ d.1.2) in

@@ -30,6 +30,10 @@ pub record ReadsAll (reading : Reading) (bytes : List ℕ) : Type 0 where
   pub to_end : IsAtEnd reading.left_after
   pub within : length bytes ≤ input_limit
 
+-- no more bytes were read than the limit
+abbrev pub ReadsWithin : Reading → Type 0
+ReadsWithin r = Took (λ n. n ≤ input_limit) r.left_before r.left_after
+
 -- these bytes were appended to what was written, and no others
 abbrev pub Wrote : Option (List ℕ) → Option (List ℕ) → List ℕ → Type 0
 Wrote before after bytes = after ≡ and_then before bytes
@@ -67,9 +71,9 @@ IsDue words r Done text = IsRun words × ((bytes : List ℕ) × ReadsAll r bytes
 IsDue words r Usage text =
     (words ≢ codes "run" ∷ []) × (r.left_after ≡ r.left_before) × (text ≡ codes "error usage\n")
 IsDue words r ReadFault text =
-    IsRun words × Rose r.faults_before r.faults_after × (text ≡ codes "error read\n")
+    IsRun words × ReadsWithin r × Rose r.faults_before r.faults_after × (text ≡ codes "error read\n")
 IsDue words r WriteFault text = ⊥
 IsDue words r TooLong text =
     IsRun words × Took (λ n. n ≡ input_limit + 1) r.left_before r.left_after × (text ≡ codes "error too long\n")
 IsDue words r Malformed text = IsRun words × ((bytes : List ℕ) × ReadsAll r bytes × IsRefusalText bytes text)
-IsDue words r NoMemory text = text ≡ codes "error memory\n"
+IsDue words r NoMemory text = ReadsWithin r × (text ≡ codes "error memory\n")

@@ -37,6 +37,8 @@ pub fn emeralds<S: Source, K: Sink>(
         × Wrote (K.written out.old) (K.written out.new) (codes "error read\n") }
     ensures too_long { result ≡ Status.TooLong → Took (λ n. n ≡ input_limit + 1) (S.left src.old) (S.left src.new)
         × Wrote (K.written out.old) (K.written out.new) (codes "error too long\n") }
+    ensures within { result ≢ Status.TooLong → result ≢ Status.WriteFault
+        → Took (λ n. n ≤ input_limit) (S.left src.old) (S.left src.new) }
     ensures malformed { result ≡ Status.Malformed → (bytes : List ℕ)
         × ReadsAll (reading (S.left src.old) (S.left src.new) (S.faults src.old) (S.faults src.new)) bytes
         × ((line : ℕ) × IsRefusedAt bytes line × Wrote (K.written out.old) (K.written out.new) (refusal_text 60 line)) }
