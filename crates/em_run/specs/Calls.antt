@@ -22,6 +22,7 @@ E_CALL = negsuc 0
 abbrev pub E_ARG : ℤ
 E_ARG = negsuc 1
 
+-- a7 holds the number of the call, a0 and a1 its operands
 abbrev pub call_number : Registers → ℕ
 call_number registers = register registers 17
 

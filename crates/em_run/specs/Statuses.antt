@@ -3,6 +3,7 @@ use Rattle.std.specs.Prelude.{ℕ}
 use Rattle.em_run.specs.declared.status.Status.{Status}
 use Rattle.em_run.specs.declared.status.Status.TheVariants.{Done, Usage, ReadFault, WriteFault, TooLong, Malformed, NoMemory}
 
+-- the number of a status
 abbrev pub number_of : Status → ℕ
 number_of Done = 0
 number_of Usage = 1

@@ -7,6 +7,7 @@ use Rattle.em_run.specs.declared.status.Status.{Status}
 use Rattle.em_run.specs.declared.status.Status.TheVariants.{Malformed, NoMemory}
 use Rattle.em_run.specs.Output.{refusal_text}
 
+-- the bytes of a text
 abbrev pub bytes_of : Text → List ℕ
 bytes_of (Fixed text) = text.now
 bytes_of (Made text) = string_bytes text
