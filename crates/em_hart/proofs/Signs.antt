@@ -45,12 +45,6 @@ pub moved : (p q x : ℕ) (z : ℤ) → FitsSigned w32 z → p ≡ q → x ≡ c
 moved p q x z f e h =
     ap (λ (k : ℕ). (k + x) % 2 ^ 32) e ∙ ap (λ (k : ℕ). (q + k) % 2 ^ 32) (same_bits z x f h)
 
--- an upper immediate added to an address
-pub upper_moved : (p q n : ℕ) → n < 2 ^ 20 → p ≡ q → (p + n * 4096 % 2 ^ 32) % 2 ^ 32 ≡ sum q (n * 2 ^ 12)
-upper_moved p q n l e =
-    let whole : n * 4096 % 2 ^ 32 ≡ n * 4096 = omega arith in
-    ap (λ (k : ℕ). (k + n * 4096 % 2 ^ 32) % 2 ^ 32) e ∙ ap (λ (k : ℕ). (q + k) % 2 ^ 32) whole
-
 -- a signed shift to the right by the low five bits, as the language passes signed numbers on
 pub signed_shift : (a b x : ℕ) (s : ℤ) → FitsSigned w32 s → s ≡ cast_signed w32 a
     → x ≡ cast_unsigned w32 (cast_signed w32 (cast_unsigned w32 (int_shr (cast_signed w32 (cast_unsigned w32 s)) (bit_and b 31))))

@@ -5,7 +5,7 @@ use Rattle.em_isa.specs.declared.instructions.Instr.{Instr}
 use Rattle.em_isa.specs.declared.instructions.Instr.TheVariants.{Lui, Auipc, Jal, Jalr, Branch, Load, Store, OpImm, Op, Fence, Ecall, Ebreak}
 use Rattle.em_hart.specs.declared.widths.Width.{Width}
 use Rattle.em_hart.specs.declared.widths.Width.TheVariants.{Byte, Half, Word}
-use Rattle.em_hart.specs.Hart.{Registers, Memory, register, has_bytes, loaded}
+use Rattle.em_hart.specs.Hart.{Registers, Memory, register, with_register, has_bytes, loaded}
 use Rattle.em_hart.specs.Widths.{bytes_in}
 use Rattle.em_hart.specs.Effect.{Effect, writes, jumps, jumps_by_register, branches, loads, stores, passes, calls, breaks, sum, difference, is_less_signed, one_if, shifted_left, shifted_right, shifted_right_signed, amount, even}
 use Rattle.em_hart.specs.Instruction.{Outcome, done, is_aligned, misaligned_data, outside_windows}
@@ -111,6 +111,14 @@ effect_of (Op op alt rd rs1 rs2) pc a b = writes (computed op alt a b)
 effect_of (Fence rd rs1 imm) pc a b = passes
 effect_of Ecall pc a b = calls
 effect_of Ebreak pc a b = breaks
+
+-- the registers once an instruction that only calculates has written its destination; another leaves them as they are
+abbrev pub calculated : Instr → Registers → Registers
+calculated (Lui rd imm) registers = with_register registers rd (imm * 2 ^ 12)
+calculated (Auipc rd imm) registers = with_register registers rd (sum registers.pc (imm * 2 ^ 12))
+calculated (OpImm op alt rd rs1 imm) registers = with_register registers rd (computed op alt (register registers rs1) (modulo imm))
+calculated (Op op alt rd rs1 rs2) registers = with_register registers rd (computed op alt (register registers rs1) (register registers rs2))
+calculated _ registers = registers
 
 -- what the instruction comes to
 abbrev pub exec_instr : Instr → Registers → Memory → Memory → Outcome

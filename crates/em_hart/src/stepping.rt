@@ -1,13 +1,13 @@
 //! One step of the machine: the word at the program counter, carried out.
 ghost use Rattle.std.specs.Prelude.{◌≡◌, ◌<◌, ◌≤◌, length};
 ghost use Rattle.em_isa.specs.Encoding.{Fits};
-ghost use Rattle.em_hart.specs.Instruction.{exec};
-ghost use Rattle.em_hart.specs.Decoded.{exec_instr};
+ghost use Rattle.em_hart.specs.Instruction.{exec, gone_on};
+ghost use Rattle.em_hart.specs.Decoded.{exec_instr, calculated};
 ghost use Rattle.em_hart.specs.Steps.{Reports};
 
 use crate::accesses::{load, store};
 use crate::answers::{BREAKPOINT, Class, NO_INSTRUCTION, OUTSIDE_CODE, Stepped};
-use crate::moves::{linked, passed, transferred, wrote};
+use crate::moves::{linked, passed, transferred};
 use crate::operations::{compared, computed};
 use crate::registers::Regs;
 use crate::windows::Window;
@@ -54,8 +54,6 @@ fn carry_out(i: &Instr, regs: &mut Regs, own: &mut Window, shared: &mut Window) 
 {
     let pc = regs.pc();
     match *i {
-        Instr::Lui { rd, imm } => wrote(regs, rd, imm << 12, Class::Plain),
-        Instr::Auipc { rd, imm } => wrote(regs, rd, pc.wrapping_add(imm << 12), Class::Plain),
         Instr::Jal { rd, offset } => linked(regs, rd, pc.wrapping_add(offset.cast_unsigned())),
         Instr::Jalr { rd, rs1, imm } => {
             let target = regs.get(rs1).wrapping_add(imm.cast_unsigned());
@@ -82,6 +80,23 @@ fn carry_out(i: &Instr, regs: &mut Regs, own: &mut Window, shared: &mut Window) 
             let number = regs.get(rs2);
             store(op, address, number, regs, own, shared)
         }
+        Instr::Ecall => Stepped::Call,
+        Instr::Ebreak => Stepped::Fault(BREAKPOINT),
+        _ => calculate(i, regs),
+    }
+}
+
+/// Writes what the instruction calculates from registers and the program counter alone, where it is one that does no more
+/// than that, and goes on with the instruction that follows.
+fn calculate(i: &Instr, regs: &mut Regs) -> Stepped
+    requires { Fits i.now }
+    ensures answer { result ≡ Stepped.Ran Class.Plain }
+    ensures whole { regs.new ≡ gone_on (calculated i.now regs.old) }
+{
+    let pc = regs.pc();
+    match *i {
+        Instr::Lui { rd, imm } => regs.set(rd, imm << 12),
+        Instr::Auipc { rd, imm } => regs.set(rd, pc.wrapping_add(imm << 12)),
         Instr::OpImm {
             op,
             alt,
@@ -90,12 +105,7 @@ fn carry_out(i: &Instr, regs: &mut Regs, own: &mut Window, shared: &mut Window) 
             imm,
         } => {
             let a = regs.get(rs1);
-            wrote(
-                regs,
-                rd,
-                computed(op, alt, a, imm.cast_unsigned()),
-                Class::Plain,
-            )
+            regs.set(rd, computed(op, alt, a, imm.cast_unsigned()));
         }
         Instr::Op {
             op,
@@ -106,10 +116,9 @@ fn carry_out(i: &Instr, regs: &mut Regs, own: &mut Window, shared: &mut Window) 
         } => {
             let a = regs.get(rs1);
             let b = regs.get(rs2);
-            wrote(regs, rd, computed(op, alt, a, b), Class::Plain)
+            regs.set(rd, computed(op, alt, a, b));
         }
-        Instr::Fence { .. } => passed(regs, Class::Plain),
-        Instr::Ecall => Stepped::Call,
-        Instr::Ebreak => Stepped::Fault(BREAKPOINT),
+        _ => {}
     }
+    passed(regs, Class::Plain)
 }

@@ -28,7 +28,7 @@ fn pieces_of_any_size(rt: HostRuntime) -> Result<(), Fail> {
 }
 
 #[test]
-fn failing_calls(rt: HostRuntime) -> Result<(), Fail> {
+fn each_failing_read(rt: HostRuntime) -> Result<(), Fail> {
     let alloc = rt.alloc();
     for call in 1..6u64 {
         let mut src = source(alloc, INPUT, &[call], 10)?;
@@ -41,6 +41,12 @@ fn failing_calls(rt: HostRuntime) -> Result<(), Fail> {
         assert_eq!(rt; out.written(), b"error read\n".as_slice(), "{call}");
         assert_eq!(rt; src.faults(), 1, "{call}");
     }
+    Ok(())
+}
+
+#[test]
+fn failing_calls(rt: HostRuntime) -> Result<(), Fail> {
+    let alloc = rt.alloc();
     for (shows, read_fails, write_fails, piece, written, status) in [
         (
             "the first read",

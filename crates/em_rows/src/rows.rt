@@ -6,109 +6,106 @@ use em_io::MemSink;
 use em_run::{Line, Status, print_trace};
 use std::test::Fail;
 
+/// What a row shows, the words, the input, the output and the status.
+const INPUTS: [(&str, &str, &[u8], &str, Status); 14] = [
+    (
+        "one word put to a port",
+        "run",
+        b"%code\nli a7, 4\nli a0, 0\nli a1, 7\necall\nli a7, 8\necall\n",
+        "%trace\nrel 0 1 0 0\nout 0 0 7 7\nexit 0\n",
+        Status::Done,
+    ),
+    (
+        "no code: the pc is outside it",
+        "run",
+        b"%code\n",
+        "%trace\nrel 0 1 0 0\nfault 0 2 0 -\n",
+        Status::Done,
+    ),
+    (
+        "a statement that is not read yet",
+        "run",
+        b"%code\nli a7, 4\nbeq a0, a0, 4\n",
+        "error 60 line 3\n",
+        Status::Malformed,
+    ),
+    (
+        "another first line",
+        "run",
+        b"x\n",
+        "error 60 line 1\n",
+        Status::Malformed,
+    ),
+    (
+        "an empty input",
+        "run",
+        b"",
+        "error 60 line 1\n",
+        Status::Malformed,
+    ),
+    ("no words", "", b"%code\n", "error usage\n", Status::Usage),
+    (
+        "two words",
+        "run run",
+        b"%code\n",
+        "error usage\n",
+        Status::Usage,
+    ),
+    (
+        "another word",
+        "Run",
+        b"%code\n",
+        "error usage\n",
+        Status::Usage,
+    ),
+    (
+        "CR before LF, and a last line without LF",
+        "run",
+        b"%code\r\nli a7, 8\r\necall",
+        "%trace\nrel 0 1 0 0\nexit 0\n",
+        Status::Done,
+    ),
+    (
+        "a CR at the end of a last line without LF stays",
+        "run",
+        b"%code\nli a7, 8\necall\r",
+        "error 60 line 3\n",
+        Status::Malformed,
+    ),
+    (
+        "two CRs before LF: one stays",
+        "run",
+        b"%code\nli a7, 8\r\r\necall\n",
+        "error 60 line 2\n",
+        Status::Malformed,
+    ),
+    (
+        "a line that is not UTF-8",
+        "run",
+        b"%code\nli a7, 8\n\xff\n\n",
+        "error 60 line 3\n",
+        Status::Malformed,
+    ),
+    (
+        "a line that is refused before one that is not UTF-8",
+        "run",
+        b"%code\nnop\n\xc3\x28\n",
+        "error 60 line 2\n",
+        Status::Malformed,
+    ),
+    (
+        "text that is no ASCII, and a first line that is not UTF-8",
+        "run",
+        b"%code\n\xc3\xa9\n",
+        "error 60 line 2\n",
+        Status::Malformed,
+    ),
+];
+
 #[test]
 fn words_and_inputs(rt: HostRuntime) -> Result<(), Fail> {
     let alloc = rt.alloc();
-    for (shows, words, input, output, status) in [
-        (
-            "one word put to a port",
-            "run",
-            b"%code\nli a7, 4\nli a0, 0\nli a1, 7\necall\nli a7, 8\necall\n".as_slice(),
-            "%trace\nrel 0 1 0 0\nout 0 0 7 7\nexit 0\n",
-            Status::Done,
-        ),
-        (
-            "no code: the pc is outside it",
-            "run",
-            b"%code\n".as_slice(),
-            "%trace\nrel 0 1 0 0\nfault 0 2 0 -\n",
-            Status::Done,
-        ),
-        (
-            "a statement that is not read yet",
-            "run",
-            b"%code\nli a7, 4\nbeq a0, a0, 4\n".as_slice(),
-            "error 60 line 3\n",
-            Status::Malformed,
-        ),
-        (
-            "another first line",
-            "run",
-            b"x\n".as_slice(),
-            "error 60 line 1\n",
-            Status::Malformed,
-        ),
-        (
-            "an empty input",
-            "run",
-            b"".as_slice(),
-            "error 60 line 1\n",
-            Status::Malformed,
-        ),
-        (
-            "no words",
-            "",
-            b"%code\n".as_slice(),
-            "error usage\n",
-            Status::Usage,
-        ),
-        (
-            "two words",
-            "run run",
-            b"%code\n".as_slice(),
-            "error usage\n",
-            Status::Usage,
-        ),
-        (
-            "another word",
-            "Run",
-            b"%code\n".as_slice(),
-            "error usage\n",
-            Status::Usage,
-        ),
-        (
-            "CR before LF, and a last line without LF",
-            "run",
-            b"%code\r\nli a7, 8\r\necall".as_slice(),
-            "%trace\nrel 0 1 0 0\nexit 0\n",
-            Status::Done,
-        ),
-        (
-            "a CR at the end of a last line without LF stays",
-            "run",
-            b"%code\nli a7, 8\necall\r".as_slice(),
-            "error 60 line 3\n",
-            Status::Malformed,
-        ),
-        (
-            "two CRs before LF: one stays",
-            "run",
-            b"%code\nli a7, 8\r\r\necall\n".as_slice(),
-            "error 60 line 2\n",
-            Status::Malformed,
-        ),
-        (
-            "a line that is not UTF-8",
-            "run",
-            b"%code\nli a7, 8\n\xff\n\n".as_slice(),
-            "error 60 line 3\n",
-            Status::Malformed,
-        ),
-        (
-            "a line that is refused before one that is not UTF-8",
-            "run",
-            b"%code\nnop\n\xc3\x28\n".as_slice(),
-            "error 60 line 2\n",
-            Status::Malformed,
-        ),
-        (
-            "text that is no ASCII, and a first line that is not UTF-8",
-            "run",
-            b"%code\n\xc3\xa9\n".as_slice(),
-            "error 60 line 2\n",
-            Status::Malformed,
-        ),
-    ] {
+    for (shows, words, input, output, status) in INPUTS {
         let mut src = source(alloc, input, &[], 4096)?;
         let mut out = MemSink::new(alloc, ROOM, Vec::new(alloc), 4096)?;
         let found = called(alloc, words, &mut src, &mut out)?;
@@ -118,66 +115,69 @@ fn words_and_inputs(rt: HostRuntime) -> Result<(), Fail> {
     Ok(())
 }
 
+/// What a row shows, the lines of code, and the lines of the trace after the release.
+const STATEMENTS: [(&str, &str, &str); 11] = [
+    (
+        "the least immediate",
+        "li a1, -2048\nli a7, 4\necall\n",
+        "out 0 0 4294965248 4294965248\nfault 0 2 12 -\n",
+    ),
+    (
+        "the greatest immediate",
+        "li a1, 2047\nli a7, 4\necall\n",
+        "out 0 0 2047 2047\nfault 0 2 12 -\n",
+    ),
+    (
+        "the least immediate in hexadecimal",
+        "li a1, -0x800\nli a7, 4\necall\n",
+        "out 0 0 4294965248 4294965248\nfault 0 2 12 -\n",
+    ),
+    (
+        "digits of either case",
+        "li a1, 0x7fF\nli a7, 4\necall\n",
+        "out 0 0 2047 2047\nfault 0 2 12 -\n",
+    ),
+    (
+        "x0 stays 0",
+        "li zero, 5\nli x11, 0\nli a7, 4\necall\n",
+        "out 0 0 0 0\nfault 0 2 16 -\n",
+    ),
+    (
+        "blanks, tabs and blank lines",
+        "\n \t\n\t li \t x17\t, 8 \necall \t\n",
+        "exit 0\n",
+    ),
+    (
+        "the last port, and one past it",
+        "li a7, 4\nli a0, 7\nli a1, 9\necall\nli a0, 8\necall\n",
+        "out 0 7 9 9\nerr 0 4 -2\nfault 0 2 24 -\n",
+    ),
+    (
+        "a port number that is negative",
+        "li a7, 4\nli a0, -1\necall\n",
+        "err 0 4 -2\nfault 0 2 12 -\n",
+    ),
+    (
+        "an answer goes to a0",
+        "li a7, 4\nli a0, 3\nli a1, 1\necall\necall\nli a7, 99\necall\nli a7, 4\necall\n",
+        "out 0 3 1 1\nout 0 0 1 1\nerr 0 99 -1\nerr 0 4 -2\nfault 0 2 36 -\n",
+    ),
+    (
+        "call 0, and the greatest number",
+        "ecall\nli a7, -1\necall\n",
+        "err 0 0 -1\nerr 0 4294967295 -1\nfault 0 2 12 -\n",
+    ),
+    (
+        "nothing after exit is carried out",
+        "li a7, 8\necall\nli a7, 4\necall\n",
+        "exit 0\n",
+    ),
+];
+
 #[test]
 fn statements(rt: HostRuntime) -> Result<(), Fail> {
     let alloc = rt.alloc();
-    for (shows, code, lines) in [
-        (
-            "the least immediate",
-            "li a1, -2048\nli a7, 4\necall\n",
-            "out 0 0 4294965248 4294965248\nfault 0 2 12 -\n",
-        ),
-        (
-            "the greatest immediate",
-            "li a1, 2047\nli a7, 4\necall\n",
-            "out 0 0 2047 2047\nfault 0 2 12 -\n",
-        ),
-        (
-            "the least immediate in hexadecimal",
-            "li a1, -0x800\nli a7, 4\necall\n",
-            "out 0 0 4294965248 4294965248\nfault 0 2 12 -\n",
-        ),
-        (
-            "digits of either case",
-            "li a1, 0x7fF\nli a7, 4\necall\n",
-            "out 0 0 2047 2047\nfault 0 2 12 -\n",
-        ),
-        (
-            "x0 stays 0",
-            "li zero, 5\nli x11, 0\nli a7, 4\necall\n",
-            "out 0 0 0 0\nfault 0 2 16 -\n",
-        ),
-        (
-            "blanks, tabs and blank lines",
-            "\n \t\n\t li \t x17\t, 8 \necall \t\n",
-            "exit 0\n",
-        ),
-        (
-            "the last port, and one past it",
-            "li a7, 4\nli a0, 7\nli a1, 9\necall\nli a0, 8\necall\n",
-            "out 0 7 9 9\nerr 0 4 -2\nfault 0 2 24 -\n",
-        ),
-        (
-            "a port number that is negative",
-            "li a7, 4\nli a0, -1\necall\n",
-            "err 0 4 -2\nfault 0 2 12 -\n",
-        ),
-        (
-            "an answer goes to a0",
-            "li a7, 4\nli a0, 3\nli a1, 1\necall\necall\nli a7, 99\necall\nli a7, 4\necall\n",
-            "out 0 3 1 1\nout 0 0 1 1\nerr 0 99 -1\nerr 0 4 -2\nfault 0 2 36 -\n",
-        ),
-        (
-            "call 0, and the greatest number",
-            "ecall\nli a7, -1\necall\n",
-            "err 0 0 -1\nerr 0 4294967295 -1\nfault 0 2 12 -\n",
-        ),
-        (
-            "nothing after exit is carried out",
-            "li a7, 8\necall\nli a7, 4\necall\n",
-            "exit 0\n",
-        ),
-    ] {
+    for (shows, code, lines) in STATEMENTS {
         let input = format!(in alloc; "%code\n{code}")?;
         let output = format!(in alloc; "%trace\nrel 0 1 0 0\n{lines}")?;
         let mut src = source(alloc, input.as_bytes(), &[], 4096)?;

@@ -1,12 +1,16 @@
-use Rattle.std.proofs.Common.{◌≡◌, ℕ, Bool, true, false, rules, sym, ap, subst, ◌∙◌, arith}
+use Rattle.std.proofs.Common.{◌≡◌, ◌≢◌, ℕ, ℤ, Bool, true, false, rules, refl, sym, ap, ◌∙◌, arith}
 use Rattle.em_isa.specs.declared.instructions.Instr.{Instr}
-use Rattle.em_isa.specs.Encoding.{Fits}
-use Rattle.em_hart.specs.Hart.{register, with_register}
+use Rattle.em_isa.specs.declared.instructions.Instr.TheVariants.{Lui, Auipc, Jal, Jalr, Branch, Load, Store, OpImm, Op, Fence, Ecall, Ebreak}
+use Rattle.em_hart.specs.declared.answers.Class.TheVariants.{Plain}
+use Rattle.em_hart.specs.declared.answers.Stepped.{Stepped}
+use Rattle.em_hart.specs.declared.answers.Stepped.TheVariants.{Ran as RanStep}
+use Rattle.em_hart.specs.Steps.{Reports}
+use Rattle.em_hart.specs.Hart.{Registers, Memory, register, with_register}
 use Rattle.em_hart.specs.Widths.{bytes_in}
 use Rattle.em_hart.specs.Effect.{loads, stores, sum, even}
-use Rattle.em_hart.specs.Instruction.{done, taken}
-use Rattle.em_hart.specs.Decoded.{exec_instr, compared, computed, is_signed, width_of, modulo}
-use Rattle.em_hart.proofs.Signs.{moved, same_bits, upper_moved, bit_cleared}
+use Rattle.em_hart.specs.Instruction.{done, taken, gone_on}
+use Rattle.em_hart.specs.Decoded.{exec_instr, calculated, compared, is_signed, width_of, modulo}
+use Rattle.em_hart.proofs.Signs.{moved, bit_cleared}
 use Rattle.em_hart.proofs.Reported.{along, unchanged, wrote, passed, not_taken, was_taken}
 use Rattle.em_hart.proofs.stepping.carry_out.Goals as goal
 
@@ -15,27 +19,27 @@ same_test : (op a b x y : ℕ) (t v : Bool) → x ≡ a → y ≡ b → t ≡ co
 same_test op a b x y t v e f g h =
     ap (λ (k : ℕ). compared op k b) (sym e) ∙ ap (compared op x) (sym f) ∙ sym g ∙ h
 
--- a value computed of what was read is one of what the registers hold
-same_value : (op : ℕ) (alt : Bool) (a b x y v : ℕ) → x ≡ a → y ≡ b → v ≡ computed op alt x y → v ≡ computed op alt a b
-same_value op alt a b x y v e f g = g ∙ ap (λ (k : ℕ). computed op alt k y) e ∙ ap (computed op alt a) f
-
-pub returns-in-Lui-clause-step : goal.returns-in-Lui-clause-step
-returns-in-Lui-clause-step c =
-    let r = c.args.regs.now in
-    let o = c.args.own.now in
-    let m = c.args.shared.now in
-    let fits = subst Fits c.in-Lui.is c.requires in
-    along _ _ _ r _ o m o m (ap (λ (i : Instr). exec_instr i r o m) c.in-Lui.is)
-    (wrote _ _ _ _ r _ o m c.wrote.ensures.answer c.wrote.ensures.whole (omega (arith, fits.1)))
-
-pub returns-in-Auipc-clause-step : goal.returns-in-Auipc-clause-step
-returns-in-Auipc-clause-step c =
-    let r = c.args.regs.now in
-    let o = c.args.own.now in
-    let m = c.args.shared.now in
-    let fits = subst Fits c.in-Auipc.is c.requires in
-    along _ _ _ r _ o m o m (ap (λ (i : Instr). exec_instr i r o m) c.in-Auipc.is)
-    (wrote _ _ _ _ r _ o m c.wrote-in-Auipc.ensures.answer c.wrote-in-Auipc.ensures.whole (upper_moved _ _ c.in-Auipc.imm fits.1 c.pc-pc.ensures))
+-- an instruction of the last row is one that calculates, or a fence
+calculating : (s : Stepped) (i : Instr) (r r' : Registers) (o m : Memory)
+    → ((rd : ℕ) (offset : ℤ) → i ≢ Jal rd offset)
+    → ((rd rs1 : ℕ) (imm : ℤ) → i ≢ Jalr rd rs1 imm)
+    → ((op rs1 rs2 : ℕ) (offset : ℤ) → i ≢ Branch op rs1 rs2 offset)
+    → ((op rd rs1 : ℕ) (imm : ℤ) → i ≢ Load op rd rs1 imm)
+    → ((op rs1 rs2 : ℕ) (imm : ℤ) → i ≢ Store op rs1 rs2 imm)
+    → i ≢ Ecall → i ≢ Ebreak
+    → s ≡ RanStep Plain → r' ≡ gone_on (calculated i r) → Reports s (exec_instr i r o m) r o m r' o m
+calculating s (Lui rd imm) r r' o m a b c d e f g h k = wrote _ _ _ _ r _ o m h k refl
+calculating s (Auipc rd imm) r r' o m a b c d e f g h k = wrote _ _ _ _ r _ o m h k refl
+calculating s (Jal rd offset) r r' o m a b c d e f g h k = absurd (a rd offset refl)
+calculating s (Jalr rd rs1 imm) r r' o m a b c d e f g h k = absurd (b rd rs1 imm refl)
+calculating s (Branch op rs1 rs2 offset) r r' o m a b c d e f g h k = absurd (c op rs1 rs2 offset refl)
+calculating s (Load op rd rs1 imm) r r' o m a b c d e f g h k = absurd (d op rd rs1 imm refl)
+calculating s (Store op rs1 rs2 imm) r r' o m a b c d e f g h k = absurd (e op rs1 rs2 imm refl)
+calculating s (OpImm op alt rd rs1 imm) r r' o m a b c d e f g h k = wrote _ _ _ _ r _ o m h k refl
+calculating s (Op op alt rd rs1 rs2) r r' o m a b c d e f g h k = wrote _ _ _ _ r _ o m h k refl
+calculating s (Fence rd rs1 imm) r r' o m a b c d e f g h k = passed _ 0 r _ o m h k
+calculating s Ecall r r' o m a b c d e f g h k = absurd (f refl)
+calculating s Ebreak r r' o m a b c d e f g h k = absurd (g refl)
 
 pub returns-in-Jal-clause-step : goal.returns-in-Jal-clause-step
 unfolding done
@@ -103,37 +107,6 @@ returns-in-Store-clause-step c =
     ∙ ap (λ (a : ℕ). done (stores n a c.get-number.result) 0 r o m) (sym address))
     c.store.ensures.step)
 
-pub returns-in-OpImm-clause-step : goal.returns-in-OpImm-clause-step
-returns-in-OpImm-clause-step c =
-    let r = c.args.regs.now in
-    let o = c.args.own.now in
-    let m = c.args.shared.now in
-    let op = c.in-OpImm.op in
-    let alt = c.in-OpImm.alt in
-    let bits = same_bits c.in-OpImm.imm c.cast_unsigned-in-OpImm.result (search rules) c.cast_unsigned-in-OpImm.ensures in
-    let value = same_value op alt (register r c.in-OpImm.rs1) (modulo c.in-OpImm.imm) c.get-a.result c.cast_unsigned-in-OpImm.result c.computed.result c.get-a.ensures bits c.computed.ensures in
-    along _ _ _ r _ o m o m (ap (λ (i : Instr). exec_instr i r o m) c.in-OpImm.is)
-    (wrote _ _ _ _ r _ o m c.wrote-in-OpImm.ensures.answer c.wrote-in-OpImm.ensures.whole value)
-
-pub returns-in-Op-clause-step : goal.returns-in-Op-clause-step
-returns-in-Op-clause-step c =
-    let r = c.args.regs.now in
-    let o = c.args.own.now in
-    let m = c.args.shared.now in
-    let op = c.in-Op.op in
-    let alt = c.in-Op.alt in
-    let value = same_value op alt (register r c.in-Op.rs1) (register r c.in-Op.rs2) c.get-a-in-Op.result c.get-b.result c.computed-in-Op.result c.get-a-in-Op.ensures c.get-b.ensures c.computed-in-Op.ensures in
-    along _ _ _ r _ o m o m (ap (λ (i : Instr). exec_instr i r o m) c.in-Op.is)
-    (wrote _ _ _ _ r _ o m c.wrote-in-Op.ensures.answer c.wrote-in-Op.ensures.whole value)
-
-pub returns-in-Fence-clause-step : goal.returns-in-Fence-clause-step
-returns-in-Fence-clause-step c =
-    let r = c.args.regs.now in
-    let o = c.args.own.now in
-    let m = c.args.shared.now in
-    along _ _ _ r _ o m o m (ap (λ (i : Instr). exec_instr i r o m) c.in-Fence.is)
-    (passed _ 0 r _ o m c.passed-in-Fence.ensures.answer c.passed-in-Fence.ensures.whole)
-
 pub returns-in-Ecall-clause-step : goal.returns-in-Ecall-clause-step
 unfolding done
 returns-in-Ecall-clause-step c =
@@ -149,3 +122,8 @@ returns-in-Ebreak-clause-step c =
     let o = c.args.own.now in
     let m = c.args.shared.now in
     (ap (λ (i : Instr). exec_instr i r o m) c.in-Ebreak.is, unchanged r o m)
+
+pub returns-in_default-clause-step : goal.returns-in_default-clause-step
+returns-in_default-clause-step c =
+    calculating _ c.args.i.now c.args.regs.now _ c.args.own.now c.args.shared.now c.in_default.not-Jal c.in_default.not-Jalr c.in_default.not-Branch
+    c.in_default.not-Load c.in_default.not-Store c.in_default.not-Ecall c.in_default.not-Ebreak c.calculate.ensures.answer c.calculate.ensures.whole
