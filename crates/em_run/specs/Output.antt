@@ -65,7 +65,8 @@ IsAnswerTo bytes WriteFault text = ⊥
 IsAnswerTo bytes TooLong text = ⊥
 
 -- each status, its cause and the text that is due with it. The words are looked at first, then the source, then the
--- length, then the form. Want of memory needs no cause, and a fault of writing has no text of its own.
+-- length, then the form. Want of memory comes only with the words of a command, and needs no other cause. A fault of
+-- writing has no text of its own.
 abbrev pub IsDue : List (List ℕ) → Reading → Status → List ℕ → Type 0
 IsDue words r Done text = IsRun words × ((bytes : List ℕ) × ReadsAll r bytes × IsRunText bytes text)
 IsDue words r Usage text =
@@ -76,4 +77,4 @@ IsDue words r WriteFault text = ⊥
 IsDue words r TooLong text =
     IsRun words × Took (λ n. n ≡ input_limit + 1) r.left_before r.left_after × (text ≡ codes "error too long\n")
 IsDue words r Malformed text = IsRun words × ((bytes : List ℕ) × ReadsAll r bytes × IsRefusalText bytes text)
-IsDue words r NoMemory text = ReadsWithin r × (text ≡ codes "error memory\n")
+IsDue words r NoMemory text = IsRun words × ReadsWithin r × (text ≡ codes "error memory\n")

@@ -43,6 +43,7 @@ pub fn text_bytes(text: &Text) -> &[u8]
 /// What is due for the words and for what is read of the source. Nothing is read where the words are no command.
 pub fn decide<S: Source>(alloc: Global, words: &[String], src: &mut S) -> Answer
     ensures due { IsDue (map string_bytes words.now) (reading (S.left src.old) (S.left src.new) (S.faults src.old) (S.faults src.new)) result.status (bytes_of result.text) }
+    ensures unread { ¬ (IsRun (map string_bytes words.now)) → src.new ≡ src.old }
     ensures grows { S.faults src.old ≤ S.faults src.new }
 {
     if !is_run(words) {

@@ -42,7 +42,10 @@ pub fn emeralds<S: Source, K: Sink>(
     ensures malformed { result ≡ Status.Malformed → (bytes : List ℕ)
         × ReadsAll (reading (S.left src.old) (S.left src.new) (S.faults src.old) (S.faults src.new)) bytes
         × ((line : ℕ) × IsRefusedAt bytes line × Wrote (K.written out.old) (K.written out.new) (refusal_text 60 line)) }
-    ensures no_memory { result ≡ Status.NoMemory → Wrote (K.written out.old) (K.written out.new) (codes "error memory\n") }
+    ensures no_memory { result ≡ Status.NoMemory → (map string_bytes words.now ≡ codes "run" ∷ []) × Wrote (K.written out.old) (K.written out.new) (codes "error memory\n") }
+
+    // Where the words are no command, the source is not touched.
+    ensures unread { map string_bytes words.now ≢ codes "run" ∷ [] → src.new ≡ src.old }
 
     // Where the sink failed, a first part of the text that was due was written, and the sink's count says that it failed.
     ensures write_fault { result ≡ Status.WriteFault → Rose (K.faults out.old) (K.faults out.new)
