@@ -1,9 +1,8 @@
-pub mod Ascii
-pub mod Images
-pub mod Meanings
-pub mod Naming
-pub mod Numerals
-pub mod Operands
-pub mod Statements
-pub mod Trimming
-pub mod Words
+pub mod Lookups
+pub mod Gathered
+pub mod Layouts
+pub mod Sized
+pub mod Aligned
+pub mod Listing
+pub mod Unique
+pub mod Loading

@@ -1,4 +1,3 @@
-pub mod Registers
-pub mod Pieces
-pub mod Line
-pub mod Assembly
+pub mod Code
+pub mod Image
+pub mod Kept

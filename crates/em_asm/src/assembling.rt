@@ -1,74 +1,127 @@
 //! The image of a list of lines.
-ghost use Rattle.std.specs.Prelude.{◌≡◌, ◌+◌, ◌++◌, ◌<◌, ◌≤◌, ◌^◌, length, IfOk, IfErr, OnOk};
-ghost use Rattle.em_asm.specs.Line.{ItemFits, words_of};
-ghost use Rattle.em_asm.specs.Assembly.{IsImageOf, IsRefusalOf, IsTooMany, most_words};
+ghost use Rattle.std.specs.Prelude.{◌≡◌, ◌<◌, ◌≤◌, ◌+◌, ◌^◌, ◌++◌, All, IfOk, IfErr, OnOk, length};
+ghost use Rattle.em_base.specs.Images.{IsWhole, most_words};
+ghost use Rattle.em_asm_read.specs.Fitting.{LineFits};
+ghost use Rattle.em_asm.specs.Image.{AreClear, IsFailOf, IsImageOf, label_at, labels_of, layout_fault, shared_word, shared_words, wait_at, waits_of};
 
-use crate::reading::{Item, read_line};
-use em_base::{Fail, Image, Items, Name, NoMemory, Refusal};
-use em_isa::encode;
+use crate::coding::{code_size, code_words};
+use crate::layout::lay_out;
+use em_asm_read::{Item, Line};
+use em_base::{Fail, Image, Items, Name, NoMemory, Wait};
 use std::alloc::Global;
 
-/// The code of a line that is of no form that is read yet, or one too many.
-const UNREAD: u16 = 60;
-
-/// The greatest number of code words.
-const MOST_WORDS: usize = 16384;
-
-/// The image of the lines of an assembly text, of which the first is line `first` of the whole input. A line is blank,
-/// `li rd, n` with n from -2048 to 2047, or `ecall`, with spaces and tabs at both its ends; each statement is one code
-/// word.
+/// The image of lines, of which the first is line `first` of the whole input.
 ///
-/// Refused with code 60 at the first line that is of no such form or whose word is the 16,385th, counted from the first
-/// line of the whole input. `NoMemory` where memory could not be had.
-pub fn assemble(alloc: Global, lines: &[Name], first: u32) -> Result<Image, Fail>
+/// Refused in two passes, of which the second is made only where the first refuses nothing. The first names the first line
+/// whose label stands in an earlier line too (6), or that passes 16,384 code words (9) or shared words (10), in this order
+/// where one line has several faults. The second names the first line that names a label which is in no line (7), or one
+/// that is out of its instruction's reach (8). `NoMemory` where memory could not be had.
+pub fn assemble(alloc: Global, lines: &[Line], first: u32) -> Result<Image, Fail>
     requires few { length lines.now < 2 ^ 31 }
     requires early { first ≤ 2 ^ 31 }
-    ensures image { IfOk result (λ image. IsImageOf lines.now image) }
-    ensures refused { IfErr result (λ fail. IsRefusalOf lines.now first fail) }
+    requires fits { All LineFits lines.now }
+    ensures image { IfOk result (IsImageOf first lines.now) }
+    ensures whole { IfOk result IsWhole }
+    ensures refused { IfErr result (IsFailOf first lines.now) }
 {
-    let mut words = Items::new(alloc);
-    for (place, line) in lines.iter().enumerate() {
-        let refusal = Refusal {
-            code: UNREAD,
-            line: first + place as u32,
-        };
-        match read_line(line.as_str().as_bytes()) {
-            Some(item) => match put_words(alloc, &mut words, item, refusal) {
-                Ok(()) => {}
-                Err(fail) => return Err(fail),
-            },
-            None => return Err(Fail::Refused(refusal)),
-        }
-    }
-    Ok(Image {
+    let labels = lay_out(alloc, lines, first)?;
+    let words = code_words(alloc, lines, first, &labels)?;
+    Ok(listed(alloc, words, lines, first)?)
+}
+
+/// The image with these code words, and with what else the lines come to.
+fn listed(alloc: Global, words: Items<u32>, lines: &[Line], first: u32) -> Result<Image, NoMemory>
+    requires few { length lines.now < 2 ^ 31 }
+    requires early { first ≤ 2 ^ 31 }
+    requires room { AreClear layout_fault lines.now (length lines.now) }
+    requires words { length words ≤ most_words }
+    ensures words { IfOk result (λ image. image.words ≡ words) }
+    ensures shared { IfOk result (λ image. image.shared ≡ shared_words lines.now) }
+    ensures waits { IfOk result (λ image. image.waits ≡ waits_of first lines.now) }
+    ensures labels { IfOk result (λ image. image.labels ≡ labels_of lines.now) }
+    ensures whole { IfOk result IsWhole }
+{
+    let mut image = Image {
         words,
         shared: Items::new(alloc),
         waits: Items::new(alloc),
         labels: Items::new(alloc),
-    })
+    };
+    let mut size = 0;
+    for (place, line) in lines.iter().enumerate() {
+        list_line(alloc, &mut image, line, first + place as u32, 4 * size)?;
+        size += code_size(&line.item);
+    }
+    Ok(image)
 }
 
-/// Puts the words of an item at the end, or refuses the item where there would be too many.
-fn put_words(
+/// Lists the label, the shared word and the `waitjob` of a line, by its number and by the address of the next code word.
+fn list_line(
     alloc: Global,
-    words: &mut Items<u32>,
-    item: Item,
-    refusal: Refusal,
-) -> Result<(), Fail>
-    requires fits { ItemFits item }
-    requires few { length words.old ≤ most_words }
-    ensures put { OnOk result (words.new ≡ words.old ++ words_of item) }
-    ensures room { OnOk result (length words.old + length (words_of item) ≤ most_words) }
-    ensures refused { IfErr result (λ fail. IsTooMany (length words.old + length (words_of item)) refusal fail) }
+    image: &mut Image,
+    line: &Line,
+    number: u32,
+    at: u32,
+) -> Result<(), NoMemory>
+    requires { at ≤ 65536 }
+    ensures words { image.new.words ≡ image.old.words }
+    ensures shared { OnOk result (image.new.shared ≡ image.old.shared ++ shared_word line.now.item) }
+    ensures waits { OnOk result (image.new.waits ≡ image.old.waits ++ wait_at number at line.now.item) }
+    ensures labels { OnOk result (image.new.labels ≡ image.old.labels ++ label_at at line.now.label) }
 {
-    let Item::One(instruction) = item else {
-        return Ok(());
-    };
-    if words.as_slice().len() >= MOST_WORDS {
-        return Err(Fail::Refused(refusal));
+    list_label(alloc, &mut image.labels, &line.label, at)?;
+    list_shared(alloc, &mut image.shared, &line.item)?;
+    list_wait(alloc, &mut image.waits, &line.item, number, at)
+}
+
+/// Lists a label with its address, where there is one.
+fn list_label(
+    alloc: Global,
+    labels: &mut Items<(Name, u32)>,
+    label: &Option<Name>,
+    at: u32,
+) -> Result<(), NoMemory>
+    ensures { OnOk result (labels.new ≡ labels.old ++ label_at at label.now) }
+{
+    match label {
+        Some(name) => {
+            let name = Name::new(alloc, name.as_str())?;
+            labels.push(alloc, (name, at))
+        }
+        None => Ok(()),
     }
-    match words.push(alloc, encode(&instruction)) {
-        Ok(()) => Ok(()),
-        Err(NoMemory) => Err(Fail::NoMemory),
+}
+
+/// Lists the word of a `.word`.
+fn list_shared(alloc: Global, shared: &mut Items<u32>, item: &Item) -> Result<(), NoMemory>
+    ensures { OnOk result (shared.new ≡ shared.old ++ shared_word item.now) }
+{
+    match item {
+        Item::Word(word) => shared.push(alloc, *word),
+        _ => Ok(()),
+    }
+}
+
+/// Lists a `waitjob`, with the address of its call and its line.
+fn list_wait(
+    alloc: Global,
+    waits: &mut Items<Wait>,
+    item: &Item,
+    line: u32,
+    at: u32,
+) -> Result<(), NoMemory>
+    requires { at ≤ 65536 }
+    ensures { OnOk result (waits.new ≡ waits.old ++ wait_at line at item.now) }
+{
+    match item {
+        Item::Wait(hint) => waits.push(
+            alloc,
+            Wait {
+                address: at + 4,
+                line,
+                hint: *hint,
+            },
+        ),
+        _ => Ok(()),
     }
 }

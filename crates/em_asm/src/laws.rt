@@ -1,15 +1,20 @@
-//! Laws of the assembly language, which each line keeps.
-ghost use Rattle.std.specs.Prelude.{◌≡◌, ℕ, List, IsTrue};
-ghost use Rattle.em_asm.specs.declared.reading.Item.{Item};
-ghost use Rattle.em_asm.specs.Line.{StandsFor};
-ghost use Rattle.em_asm.specs.Pieces.{is_ascii_text};
+//! Laws of the images of lines.
+ghost use Rattle.std.specs.Prelude.{◌≡◌, ◌<◌, ◌+◌, ◌*◌, ◌%◌, ◌^◌, ℕ, List};
+ghost use Rattle.em_isa.specs.Encoding.{twos_complement};
+ghost use Rattle.em_asm_read.specs.declared.items.Line.{Line};
+ghost use Rattle.em_base.specs.declared.images.Image.{Image};
+ghost use Rattle.em_base.specs.declared.refusals.Refusal.{Refusal};
+ghost use Rattle.em_asm.specs.Code.{high_part, low_part};
+ghost use Rattle.em_asm.specs.Image.{IsImageOf, IsRefused};
 
-/// A line stands for something only where it is ASCII.
-pub fn only_ascii_stands()
-    ensures { (line : List ℕ) (item : Item) → StandsFor line item → IsTrue (is_ascii_text line) }
+/// What `li` comes to loads the value: its upper part shifted left by 12, and its low part added, modulo 2^32.
+pub fn loads_value()
+    ensures { (value : ℕ) → value < 2 ^ 32 → (high_part value * 2 ^ 12 + twos_complement 32 (low_part value)) % 2 ^ 32 ≡ value }
 {}
 
-/// A line stands for one thing at most.
-pub fn one_meaning()
-    ensures { (line : List ℕ) (one other : Item) → StandsFor line one → StandsFor line other → one ≡ other }
+/// Lines have one image, or are refused with one refusal, and never both.
+pub fn one_image()
+    ensures image { (first : ℕ) (lines : List Line) (one other : Image) → IsImageOf first lines one → IsImageOf first lines other → one ≡ other }
+    ensures refusal { (first : ℕ) (lines : List Line) (one other : Refusal) → IsRefused first lines one → IsRefused first lines other → one ≡ other }
+    ensures either { (first : ℕ) (lines : List Line) (image : Image) (refusal : Refusal) → IsImageOf first lines image → IsRefused first lines refusal → ⊥ }
 {}

@@ -1,14 +1,13 @@
-//! The assembler: from the lines of an assembly text to the image that a machine starts from.
+//! The assembler: from what the lines of an assembly text say to the image that a machine starts from.
 #![tactic(auto)]
 
 pub mod assembling;
+pub mod coding;
+pub mod faults;
 pub mod laws;
-pub mod pieces;
-pub mod reading;
-pub mod registers;
-#[cfg(test)]
-mod tests;
+pub mod layout;
+pub mod loads;
+pub mod words;
 
 pub use assembling::assemble;
-pub use laws::{one_meaning, only_ascii_stands};
-pub use reading::Item;
+pub use laws::{loads_value, one_image};

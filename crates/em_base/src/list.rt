@@ -45,9 +45,7 @@ impl<T: Drop> Items<T> {
         ensures err { OnErr result (self.new ≡ self.old) }
     {
         let _ = alloc;
-        match self.inner.push(item) {
-            Ok(()) => Ok(()),
-            Err(_) => Err(NoMemory),
-        }
+        self.inner.push(item)?;
+        Ok(())
     }
 }

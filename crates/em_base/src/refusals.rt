@@ -1,5 +1,10 @@
 //! Why an input is refused.
 
+ghost use Rattle.std.specs.Prelude.{◌≡◌};
+ghost use Rattle.em_base.specs.declared.refusals.Fail.TheVariants.{NoMemory as OutOfMemory};
+
+use crate::memory::NoMemory;
+use std::alloc::AllocError;
 use thiserror::Error;
 
 /// What is wrong with an input, and where.
@@ -20,4 +25,20 @@ pub enum Fail {
     /// Memory could not be had.
     #[error("memory ran out")]
     NoMemory,
+}
+
+impl From<NoMemory> for Fail {
+    ghost from_gives = { λ _ fail. fail ≡ OutOfMemory };
+
+    fn from(_error: NoMemory) -> Fail {
+        Fail::NoMemory
+    }
+}
+
+impl From<AllocError> for Fail {
+    ghost from_gives = { λ _ fail. fail ≡ OutOfMemory };
+
+    fn from(_error: AllocError) -> Fail {
+        Fail::NoMemory
+    }
 }

@@ -29,10 +29,8 @@ impl Name {
     pub fn new(alloc: Global, text: &str) -> Result<Name, NoMemory>
         ensures { IfOk result (λ name. name ≡ text.now) }
     {
-        match String::from_str(alloc, text) {
-            Ok(text) => Ok(Name { text }),
-            Err(_) => Err(NoMemory),
-        }
+        let text = String::from_str(alloc, text)?;
+        Ok(Name { text })
     }
 
     /// The text.

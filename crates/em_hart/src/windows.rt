@@ -77,10 +77,8 @@ impl Window {
           bytes = flat_map (bytes_of 4) first.now ++ replicate (length - 4 * len first.now) 0;
         }) }
     {
-        match filled(alloc, first, length) {
-            Ok(bytes) => Ok(Window { base, bytes }),
-            Err(_) => Err(NoMemory),
-        }
+        let bytes = filled(alloc, first, length)?;
+        Ok(Window { base, bytes })
     }
 
     /// The number of its bytes.

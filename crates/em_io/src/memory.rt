@@ -131,17 +131,15 @@ impl MemSink {
         requires { 1 ≤ piece }
         ensures { IfOk result (λ sink. sink ≡ record { written = []; room = room; fails = fails.items; piece = piece; calls = 0; faults = 0 }) }
     {
-        match Vec::with_capacity(alloc, room) {
-            Ok(bytes) => Ok(MemSink {
-                bytes,
-                room,
-                fails,
-                piece,
-                calls: 0,
-                faults: 0,
-            }),
-            Err(_) => Err(NoMemory),
-        }
+        let bytes = Vec::with_capacity(alloc, room)?;
+        Ok(MemSink {
+            bytes,
+            room,
+            fails,
+            piece,
+            calls: 0,
+            faults: 0,
+        })
     }
 
     /// The bytes that were written, in order.

@@ -7,7 +7,7 @@ use em_run::{Line, Status, print_trace};
 use std::test::Fail;
 
 /// What a row shows, the words, the input, the output and the status.
-const INPUTS: [(&str, &str, &[u8], &str, Status); 14] = [
+const INPUTS: [(&str, &str, &[u8], &str, Status); 19] = [
     (
         "one word put to a port",
         "run",
@@ -23,10 +23,24 @@ const INPUTS: [(&str, &str, &[u8], &str, Status); 14] = [
         Status::Done,
     ),
     (
-        "a statement that is not read yet",
+        "a shared word, and an access that is not aligned",
         "run",
-        b"%code\nli a7, 4\nbeq a0, a0, 4\n",
-        "error 60 line 3\n",
+        b"%code\nli t0, 0x20000000\nlw a1, 0(t0)\nli a7, 4\nli a0, 3\necall\nlw a1, 2(t0)\n.word 9\n",
+        "%trace\nrel 0 1 0 0\nout 0 3 9 9\nfault 0 4 20 -\n",
+        Status::Done,
+    ),
+    (
+        "a loop that only the limit of steps ends",
+        "run",
+        b"%code\nj 0\n",
+        "%trace\nrel 0 1 0 0\n",
+        Status::Done,
+    ),
+    (
+        "a label that stands twice",
+        "run",
+        b"%code\na: nop\na: nop\n",
+        "error 6 line 3\n",
         Status::Malformed,
     ),
     (
@@ -41,6 +55,27 @@ const INPUTS: [(&str, &str, &[u8], &str, Status); 14] = [
         "run",
         b"",
         "error 60 line 1\n",
+        Status::Malformed,
+    ),
+    (
+        "a comment behind the header",
+        "run",
+        b"%code # x\nnop\n",
+        "error 60 line 1\n",
+        Status::Malformed,
+    ),
+    (
+        "another header, before a line that is refused and one that is not UTF-8",
+        "run",
+        b"%code\nfoo\n%script\n%\n",
+        "error 60 line 3\n",
+        Status::Malformed,
+    ),
+    (
+        "a percent sign inside a line is no header",
+        "run",
+        b"%code\n %\n",
+        "error 1 line 2\n",
         Status::Malformed,
     ),
     ("no words", "", b"%code\n", "error usage\n", Status::Usage),
@@ -69,35 +104,35 @@ const INPUTS: [(&str, &str, &[u8], &str, Status); 14] = [
         "a CR at the end of a last line without LF stays",
         "run",
         b"%code\nli a7, 8\necall\r",
-        "error 60 line 3\n",
+        "error 1 line 3\n",
         Status::Malformed,
     ),
     (
         "two CRs before LF: one stays",
         "run",
         b"%code\nli a7, 8\r\r\necall\n",
-        "error 60 line 2\n",
+        "error 4 line 2\n",
         Status::Malformed,
     ),
     (
         "a line that is not UTF-8",
         "run",
         b"%code\nli a7, 8\n\xff\n\n",
-        "error 60 line 3\n",
+        "error 43 line 3\n",
         Status::Malformed,
     ),
     (
-        "a line that is refused before one that is not UTF-8",
+        "a line that is not UTF-8 behind one that is refused, and no header",
         "run",
-        b"%code\nnop\n\xc3\x28\n",
-        "error 60 line 2\n",
+        b"\n\nfoo\n\xc3\x28\n",
+        "error 43 line 4\n",
         Status::Malformed,
     ),
     (
-        "text that is no ASCII, and a first line that is not UTF-8",
+        "a comment that is no ASCII, and a label that is none",
         "run",
-        b"%code\n\xc3\xa9\n",
-        "error 60 line 2\n",
+        b"%code\nnop # \xc3\xa9\n\xc3\xa9: nop\n",
+        "error 5 line 3\n",
         Status::Malformed,
     ),
 ];
@@ -186,76 +221,6 @@ fn statements(rt: HostRuntime) -> Result<(), Fail> {
         assert_eq!(rt; found, Status::Done, "{shows}");
         assert_eq!(rt; out.written(), output.as_bytes(), "{shows}");
     }
-    Ok(())
-}
-
-#[test]
-fn lines_of_no_known_form(rt: HostRuntime) -> Result<(), Fail> {
-    let alloc = rt.alloc();
-    for line in [
-        "li a0, 2048",
-        "li a0, -2049",
-        "li a0, 0x800",
-        "li a0, +1",
-        "li a0, - 1",
-        "li a0, --1",
-        "li a0, 0X1",
-        "li a0, 0x",
-        "li a0, 1_0",
-        "li a0, 170141183460469231731687303715884105728",
-        "li a0,",
-        "li a0",
-        "li a0 1",
-        "li a0, 1, 2",
-        "li , 1",
-        "li a 0, 1",
-        "lia0, 1",
-        "LI a0, 1",
-        "li A0, 1",
-        "li x32, 1",
-        "li x01, 1",
-        "ecal l",
-        "ecall 1",
-        "ecall # a comment",
-        "a: ecall",
-        "# a comment",
-        "%code",
-        "\u{a0}",
-        "\u{b}",
-    ] {
-        let input = format!(in alloc; "%code\necall\n{line}\nx\n")?;
-        let mut src = source(alloc, input.as_bytes(), &[], 4096)?;
-        let mut out = MemSink::new(alloc, ROOM, Vec::new(alloc), 4096)?;
-        let found = called(alloc, "run", &mut src, &mut out)?;
-        assert_eq!(rt; found, Status::Malformed, "{line}");
-        assert_eq!(rt; out.written(), b"error 60 line 3\n".as_slice(), "{line}");
-    }
-    Ok(())
-}
-
-#[test]
-fn the_most_code_words(rt: HostRuntime) -> Result<(), Fail> {
-    let alloc = rt.alloc();
-    let mut input = String::from_str(alloc, "%code\n")?;
-    for _ in 0..16_384u32 {
-        input.push_str("li a0, 1\n")?;
-    }
-    let mut src = source(alloc, input.as_bytes(), &[], 65_536)?;
-    let mut out = MemSink::new(alloc, ROOM, Vec::new(alloc), 4096)?;
-    assert_eq!(rt; called(alloc, "run", &mut src, &mut out)?, Status::Done);
-    assert_eq!(rt;
-        out.written(),
-        b"%trace\nrel 0 1 0 0\nfault 0 2 65536 -\n".as_slice()
-    );
-
-    input.push_str("\n \necall\n")?;
-    let mut src = source(alloc, input.as_bytes(), &[], 65_536)?;
-    let mut out = MemSink::new(alloc, ROOM, Vec::new(alloc), 4096)?;
-    assert_eq!(rt;
-        called(alloc, "run", &mut src, &mut out)?,
-        Status::Malformed
-    );
-    assert_eq!(rt; out.written(), b"error 60 line 16388\n".as_slice());
     Ok(())
 }
 

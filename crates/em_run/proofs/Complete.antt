@@ -1,66 +1,61 @@
 -- Where nothing is amiss, nothing but the run is due: a program isn't refused.
-use Rattle.std.proofs.Common.{◌≡◌, ◌⊎◌, ℕ, zero, suc, ◌<◌, ◌≤◌, List, [], ◌∷◌, ◌++◌, length, take, get_or, Option, Some, None, inl, inr, refl, sym, ap, subst, ◌∙◌, arith, append-nil, length-append, codes}
-use Rattle.std.proofs.lemmas.Grind.{flat_map-append}
-use Rattle.std.specs.List.{flat_map}
+use Rattle.std.proofs.Common.{◌≡◌, ◌⊎◌, ℕ, zero, suc, ◌<◌, ◌≤◌, Bool, true, false, List, [], ◌∷◌, ◌++◌, length, Option, Some, None, inl, inr, refl, sym, ap, subst, ◌∙◌, arith, append-nil, length-append, codes}
+use Rattle.std.proofs.lemmas.List.{take_all}
+use Rattle.std.specs.Str.{IsUtf8, IsValidUpTo}
+use Rattle.em_base.specs.declared.images.Image.{Image}
+use Rattle.em_base.specs.declared.refusals.Refusal.{Refusal}
 use Rattle.em_io.specs.Bytes.{input_limit, Rose, then_left, IsAtEnd}
-use Rattle.em_asm.specs.declared.reading.Item.{Item}
-use Rattle.em_asm.specs.Line.{StandsFor, words_of}
-use Rattle.em_asm.specs.Assembly.{AllStandFor, AreWordsOf, IsFirstRefused}
+use Rattle.em_asm_read.specs.declared.items.Line.{Line}
+use Rattle.em_asm_read.specs.Lines.{IsFaulty, IsLine}
+use Rattle.em_asm.specs.Image.{IsImageOf, IsRefused as IsRefusedByAssembler}
 use Rattle.em_run.specs.declared.status.Status.{Status}
 use Rattle.em_run.specs.declared.status.Status.TheVariants.{Done, Usage, ReadFault, WriteFault, TooLong, Malformed, NoMemory}
 use Rattle.em_run.specs.Output.{IsDue, Reading}
-use Rattle.em_run.specs.Program.{IsProgram, IsRefusedAt}
+use Rattle.em_run.specs.Program.{AllSay, Assembles, IsProgram, IsRefused, IsRefusedAfter, IsTextRefused, is_header, line_at}
 
--- a line stands for one thing at most
-abbrev pub OneMeaning : Type 0
-OneMeaning = (line : List ℕ) (one other : Item) → StandsFor line one → StandsFor line other → one ≡ other
+-- what the languages of lines and of images keep: a line says one thing, or has a fault; lines have an image, or are refused
+pub record Laws : Type 0 where
+  pub line : (text : List ℕ) (one other : Line) → IsLine text one → IsLine text other → one ≡ other
+  pub either : (text : List ℕ) (line : Line) (code : ℕ) → IsLine text line → IsFaulty text code → ⊥
+  pub image : (first : ℕ) (lines : List Line) (image : Image) (refusal : Refusal) → IsImageOf first lines image → IsRefusedByAssembler first lines refusal → ⊥
 
-same_items : OneMeaning → (ls : List (List ℕ)) (xs ys : List Item) → AllStandFor ls xs → AllStandFor ls ys → xs ≡ ys
-same_items one [] xs ys h k = h ∙ sym k
-same_items one (l ∷ ls) xs ys h k =
-    h.2 ∙ ap (λ x. x ∷ h.1) (one l h.0 k.0 h.3 k.3) ∙ ap (λ t. k.0 ∷ t) (same_items one ls h.1 k.1 h.4 k.4) ∙ sym k.2
+same_items : Laws → (texts : List (List ℕ)) (xs ys : List Line) → AllSay texts xs → AllSay texts ys → xs ≡ ys
+same_items laws [] xs ys h k = h ∙ sym k
+same_items laws (t ∷ ts) xs ys h k =
+    h.2 ∙ ap (λ x. x ∷ h.1) (laws.line t h.0 k.0 h.3 k.3) ∙ ap (λ rest. k.0 ∷ rest) (same_items laws ts h.1 k.1 h.4 k.4) ∙ sym k.2
 
--- the item at a place, and those before it
-record At (ls : List (List ℕ)) (items : List Item) (place : ℕ) : Type 0 where
-  front : List Item
-  item : Item
-  back : List Item
-  split : items ≡ front ++ item ∷ back
-  before : AllStandFor (take place ls) front
-  here : StandsFor (get_or ls place []) item
-
-item_at : (ls : List (List ℕ)) (items : List Item) (place : ℕ) → place < length ls → AllStandFor ls items → At ls items place
+-- the item at a place
+item_at : (texts : List (List ℕ)) (items : List Line) (place : ℕ) → place < length texts → AllSay texts items → (item : Line) × IsLine (line_at texts place) item
 item_at [] items place h s = absurd (omega arith)
-item_at (l ∷ ls) items zero h s = record { front = []; item = s.0; back = s.1; split = s.2; before = refl; here = s.3 }
-item_at (l ∷ ls) items (suc n) h s =
-    let more = item_at ls s.1 n (omega arith) s.4 in
-    record {
-      front = s.0 ∷ more.front;
-      item = more.item;
-      back = more.back;
-      split = s.2 ∙ ap (λ t. s.0 ∷ t) more.split;
-      before = (s.0, more.front, refl, s.3, more.before);
-      here = more.here;
-    }
+item_at (t ∷ ts) items zero h s = (s.0, s.3)
+item_at (t ∷ ts) items (suc n) h s = item_at ts s.1 n (omega arith) s.4
 
--- lines that have their words aren't refused
-words_not_refused : OneMeaning → (ls : List (List ℕ)) (words : List ℕ) (place : ℕ) → AreWordsOf ls words → IsFirstRefused ls place → ⊥
-words_not_refused one ls words place h f =
-    let at = item_at ls h.items place f.within h.each in
-    let past = f.refused at.item at.here in
-    let before : f.before.items ≡ at.front = same_items one (take place ls) f.before.items at.front f.before.each at.before in
-    let counted : length f.words ≡ length (flat_map words_of at.front) = ap length (f.before.all ∙ ap (flat_map words_of) before) in
-    let all : words ≡ flat_map words_of at.front ++ (words_of at.item ++ flat_map words_of at.back) = h.all ∙ ap (flat_map words_of) at.split ∙ flat_map-append words_of at.front (at.item ∷ at.back) in
-    omega (arith, past, counted, h.few, ap length all, length-append (flat_map words_of at.front) (words_of at.item ++ flat_map words_of at.back), length-append (words_of at.item) (flat_map words_of at.back))
+both_ways : (b : Bool) → b ≡ false → b ≡ true → ⊥
+both_ways b e f = let t : false ≡ true = sym e ∙ f in absurd (cc)
+
+after_not_refused : Laws → (texts : List (List ℕ)) (image : Image) (refusal : Refusal) → Assembles texts image → IsRefusedAfter texts refusal → ⊥
+after_not_refused laws texts image refusal a (inl h) = both_ways (is_header (line_at texts h.place)) (a.plain h.place h.within) h.header
+after_not_refused laws texts image refusal a (inr (inl h)) =
+    let item = item_at texts a.items h.named.place h.named.within a.read in
+    laws.either (line_at texts h.named.place) item.0 refusal.code item.1 h.named.faulty
+after_not_refused laws texts image refusal a (inr (inr h)) =
+    laws.image 2 a.items image refusal a.assembled (subst (λ items. IsRefusedByAssembler 2 items refusal) (same_items laws texts h.items a.items h.read a.read) h.refused)
 
 rest_of : (a : List ℕ) (cs ds : List (List ℕ)) → a ∷ cs ≡ a ∷ ds → cs ≡ ds
 rest_of a cs ds e = cc
 
-pub program_not_refused : OneMeaning → (bytes code : List ℕ) (line : ℕ) → IsProgram bytes code → IsRefusedAt bytes line → ⊥
-program_not_refused one bytes code line p r = elim r [
-  | inl h ↦ h.0 p.rest p.headed
-  | inr h ↦ words_not_refused one p.rest code h.1 p.assembled (subst (λ t. IsFirstRefused t h.1) (rest_of (codes "%code") h.0 p.rest (sym h.2 ∙ p.headed)) h.3)
-]
+text_not_refused : Laws → (bytes : List ℕ) (image : Image) (refusal : Refusal) → IsProgram bytes image → IsTextRefused bytes refusal → ⊥
+text_not_refused laws bytes image refusal p (inl h) = h.headless p.rest p.headed
+text_not_refused laws bytes image refusal p (inr h) =
+    after_not_refused laws h.0 image refusal (subst (λ t. Assembles t image) (rest_of (codes "%code") p.rest h.0 (sym p.headed ∙ h.1)) p.image_of) h.2
+
+-- bytes that are UTF-8 are so to their end
+broken_or_text : (bytes : List ℕ) (n : ℕ) → IsValidUpTo bytes n → IsUtf8 bytes → ⊥
+broken_or_text bytes n h u = h.longest (length bytes) h.short (subst IsUtf8 (sym (take_all (length bytes) bytes (omega arith))) u)
+
+pub program_not_refused : Laws → (bytes : List ℕ) (image : Image) (refusal : Refusal) → IsProgram bytes image → IsRefused bytes refusal → ⊥
+program_not_refused laws bytes image refusal p (inl h) = broken_or_text bytes h.place h.broken p.utf8
+program_not_refused laws bytes image refusal p (inr h) = text_not_refused laws bytes image refusal p h.1
 
 -- ---- what was read, where the source tells it
 
@@ -76,16 +71,16 @@ read_all_of bytes taken (Some rest) e h =
     let same : bytes ≡ taken ++ rest = cc in
     sym (same ∙ ap (λ t. taken ++ t) h ∙ append-nil taken)
 
-pub complete : OneMeaning → (words : List (List ℕ)) (r : Reading) (s : Status) (text bytes code : List ℕ) → words ≡ codes "run" ∷ [] → r.left_before ≡ Some bytes → length bytes ≤ input_limit → IsProgram bytes code
+pub complete : Laws → (words : List (List ℕ)) (r : Reading) (s : Status) (text bytes : List ℕ) (image : Image) → words ≡ codes "run" ∷ [] → r.left_before ≡ Some bytes → length bytes ≤ input_limit → IsProgram bytes image
     → (Rose r.faults_before r.faults_after → ⊥) → IsDue words r s text → (s ≡ Done) ⊎ (s ≡ NoMemory)
-complete one words r Done text bytes code w told few p still d = inl refl
-complete one words r NoMemory text bytes code w told few p still d = inr refl
-complete one words r Usage text bytes code w told few p still d = absurd (d.0 w)
-complete one words r ReadFault text bytes code w told few p still d = absurd (still d.2)
-complete one words r WriteFault text bytes code w told few p still d = absurd d
-complete one words r TooLong text bytes code w told few p still d =
+complete laws words r Done text bytes image w told few p still d = inl refl
+complete laws words r NoMemory text bytes image w told few p still d = inr refl
+complete laws words r Usage text bytes image w told few p still d = absurd (d.0 w)
+complete laws words r ReadFault text bytes image w told few p still d = absurd (still d.2)
+complete laws words r WriteFault text bytes image w told few p still d = absurd d
+complete laws words r TooLong text bytes image w told few p still d =
     let within = took_all bytes d.1.0 r.left_after (sym told ∙ d.1.2) in
     absurd (omega (arith, within, d.1.1, few))
-complete one words r Malformed text bytes code w told few p still d =
+complete laws words r Malformed text bytes image w told few p still d =
     let same = read_all_of bytes d.1.0 r.left_after (sym told ∙ d.1.1.all) d.1.1.to_end in
-    absurd (program_not_refused one bytes code d.1.2.0 p (subst (λ b. IsRefusedAt b d.1.2.0) same d.1.2.1))
+    absurd (program_not_refused laws bytes image d.1.2.0 p (subst (λ b. IsRefused b d.1.2.0) same d.1.2.1))

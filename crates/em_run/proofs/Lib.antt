@@ -1,5 +1,3 @@
-pub mod Broken
 pub mod Complete
-pub mod Cuts
-pub mod Loads
+pub mod Reading
 pub mod Stepping

@@ -4,5 +4,6 @@ pub mod Calls
 pub mod Plain
 pub mod Machine
 pub mod Program
+pub mod Reading
 pub mod Output
 pub mod Texts

@@ -1,12 +1,14 @@
 -- What the program answers and writes, by its words and by what it read: this project's own.
 use Rattle.std.specs.Prelude.{◌≡◌, ◌≢◌, ℕ, ◌+◌, ◌≤◌, List, [], ◌∷◌, ◌++◌, length, Option, codes}
 use Rattle.std.specs.Fmt.{decimal}
+use Rattle.em_base.specs.declared.images.Image.{Image}
+use Rattle.em_base.specs.declared.refusals.Refusal.{Refusal}
 use Rattle.em_io.specs.Bytes.{input_limit, Rose, then_left, and_then, IsAtEnd, Took}
 use Rattle.em_run.specs.declared.status.Status.{Status}
 use Rattle.em_run.specs.declared.status.Status.TheVariants.{Done, Usage, ReadFault, WriteFault, TooLong, Malformed, NoMemory}
 use Rattle.em_run.specs.Trace.{lines_text}
 use Rattle.em_run.specs.Plain.{trace_of}
-use Rattle.em_run.specs.Program.{IsProgram, IsRefusedAt}
+use Rattle.em_run.specs.Program.{IsProgram, IsRefused}
 
 -- the words after the program's name are the one word `run`
 abbrev pub IsRun : List (List ℕ) → Type 0
@@ -39,8 +41,8 @@ abbrev pub Wrote : Option (List ℕ) → Option (List ℕ) → List ℕ → Type
 Wrote before after bytes = after ≡ and_then before bytes
 
 -- the text of a run
-abbrev pub run_text : List ℕ → List ℕ
-run_text code = codes "%trace\n" ++ lines_text (trace_of code)
+abbrev pub run_text : Image → List ℕ
+run_text image = codes "%trace\n" ++ lines_text (trace_of image.words image.shared)
 
 -- the text of a refusal, by its code and its line
 abbrev pub refusal_text : ℕ → ℕ → List ℕ
@@ -48,11 +50,11 @@ refusal_text code line = codes "error " ++ decimal code ++ codes " line " ++ dec
 
 -- the bytes are a program, and the text is that of its run
 abbrev pub IsRunText : List ℕ → List ℕ → Type 0
-IsRunText bytes text = (code : List ℕ) × IsProgram bytes code × (text ≡ run_text code)
+IsRunText bytes text = (image : Image) × IsProgram bytes image × (text ≡ run_text image)
 
--- the bytes are refused at a line, with the code of a form that isn't read yet, and the text names both
+-- the bytes are refused, and the text names the code and the line
 abbrev pub IsRefusalText : List ℕ → List ℕ → Type 0
-IsRefusalText bytes text = (line : ℕ) × IsRefusedAt bytes line × (text ≡ refusal_text 60 line)
+IsRefusalText bytes text = (refusal : Refusal) × IsRefused bytes refusal × (text ≡ refusal_text refusal.code refusal.line)
 
 -- what is due for bytes that were read to their end
 abbrev pub IsAnswerTo : List ℕ → Status → List ℕ → Type 0

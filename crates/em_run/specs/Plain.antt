@@ -1,7 +1,8 @@
 -- The plain machine of one task, numbered 0, and its run: this project's own, over the meaning of one instruction.
 use Rattle.std.specs.Prelude.{ℕ, zero, suc, Bool, true, false, not, ◌&&◌, nat_lt, List, [], ◌∷◌, ◌++◌, length, replicate, slice_set, None, if◌then◌else◌}
+use Rattle.std.specs.List.{flat_map}
 use Rattle.em_base.specs.declared.ids.TaskId.{TaskId}
-use Rattle.em_hart.specs.Hart.{Registers, Memory, with_register}
+use Rattle.em_hart.specs.Hart.{Registers, Memory, bytes_of, with_register}
 use Rattle.em_hart.specs.Instruction.{Outcome, Ran, Call, Fault, exec}
 use Rattle.em_run.specs.declared.trace.Line.{Line}
 use Rattle.em_run.specs.declared.trace.Line.TheVariants.{Rel, Out, Refused, Faulted, Exited}
@@ -30,12 +31,13 @@ shared_base = 0x20000000
 abbrev pub own_length : ℕ
 own_length = 1024
 
--- the task at address 0 with every register 0, its own window all zero, no shared window, and eight ports that show 0
-abbrev pub boot : Plain
-boot = record {
+-- the task at address 0 with every register 0, its own window all zero, a shared window of these words, and eight ports that
+-- show 0
+abbrev pub boot : List ℕ → Plain
+boot words = record {
   registers = record { values = replicate 32 0; pc = 0 };
   own = record { base = own_base; bytes = replicate own_length 0 };
-  shared = record { base = shared_base; bytes = [] };
+  shared = record { base = shared_base; bytes = flat_map (bytes_of 4) words };
   stopped = false;
   ports = replicate 8 0;
   lines = [];
@@ -106,6 +108,6 @@ unfoldable pub steps : List ℕ → ℕ → Plain → Plain
 steps code zero p = p
 steps code (suc n) p = if goes_on p then steps code n (step code p) else p
 
--- the trace of the code: the lines of the run of the task, which is released once, at time 0 with the word 0
-abbrev pub trace_of : List ℕ → List Line
-trace_of code = (steps code most_steps (released 0 0 boot)).lines
+-- the trace of code and shared words: the lines of the run of the task, which is released once, at time 0 with the word 0
+abbrev pub trace_of : List ℕ → List ℕ → List Line
+trace_of code words = (steps code most_steps (released 0 0 (boot words))).lines

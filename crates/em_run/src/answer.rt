@@ -1,14 +1,15 @@
 //! What is due: the status and the text, by the words and by what is read.
 ghost use Rattle.std.specs.Prelude.{◌≡◌, ◌^◌, ◌<◌, ◌≤◌, ◌↔◌, IsTrue, IfOk, IfErr, length, map, string_bytes};
-ghost use Rattle.em_run.specs.Output.{IsAnswerTo, IsDue, IsRun, IsRunText, reading, refusal_text};
-ghost use Rattle.em_run.specs.Program.{IsRefusalOf};
+ghost use Rattle.em_run.specs.Output.{IsAnswerTo, IsDue, IsRun, IsRunText, reading};
+ghost use Rattle.em_base.specs.Images.{IsWhole};
+ghost use Rattle.em_run.specs.Program.{IsFailOf};
 ghost use Rattle.em_run.specs.Texts.{IsRefusalAnswer, bytes_of};
 
 use crate::machine::run;
 use crate::program::load;
 use crate::status::Status;
 use crate::trace::put_trace;
-use em_base::{Fail, NoMemory, Refusal};
+use em_base::{Fail, Image, NoMemory, Refusal};
 use em_io::{ReadError, Source, read_all};
 use std::alloc::Global;
 
@@ -109,27 +110,19 @@ fn refused(alloc: Global, refusal: Refusal) -> Answer
 fn run_text(alloc: Global, bytes: &[u8]) -> Result<String, Fail>
     requires { length bytes.now < 2 ^ 30 }
     ensures text { IfOk result (λ text. IsRunText bytes.now (string_bytes text)) }
-    ensures refused { IfErr result (IsRefusalOf bytes.now) }
+    ensures refused { IfErr result (IsFailOf bytes.now) }
 {
-    match load(alloc, bytes) {
-        Ok(image) => match trace_text(alloc, image.words.as_slice()) {
-            Ok(text) => Ok(text),
-            Err(NoMemory) => Err(Fail::NoMemory),
-        },
-        Err(fail) => Err(fail),
-    }
+    let image = load(alloc, bytes)?;
+    Ok(trace_text(alloc, &image)?)
 }
 
-/// The text of the run of code.
-fn trace_text(alloc: Global, code: &[u32]) -> Result<String, NoMemory>
-    requires { length code.now ≤ 16384 }
-    ensures { IfOk result (λ text. string_bytes text ≡ Rattle.em_run.specs.Output.run_text code.now) }
+/// The text of the run of an image.
+fn trace_text(alloc: Global, image: &Image) -> Result<String, NoMemory>
+    requires { IsWhole image.now }
+    ensures { IfOk result (λ text. string_bytes text ≡ Rattle.em_run.specs.Output.run_text image.now) }
 {
-    let lines = run(alloc, code)?;
-    let mut text = match String::from_str(alloc, "%trace\n") {
-        Ok(text) => text,
-        Err(_) => return Err(NoMemory),
-    };
+    let lines = run(alloc, image.words.as_slice(), image.shared.as_slice())?;
+    let mut text = String::from_str(alloc, "%trace\n")?;
     put_trace(&mut text, lines.as_slice())?;
     Ok(text)
 }

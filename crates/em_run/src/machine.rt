@@ -47,14 +47,16 @@ struct Machine {
     ghost shared_stands: { shared.base ≡ 0x20000000 },
 }
 
-/// The trace of a run of the code: one task at address 0 with an own window of 1,024 bytes, no shared window and eight
-/// ports that latch and show 0, released once at time 0 with the word 0. The run ends where the task is stopped, where
-/// 20,000,000 steps are done, or where the trace has 1,000,000 lines. Its only refusal is `NoMemory`.
-pub fn run(alloc: Global, code: &[u32]) -> Result<Items<Line>, NoMemory>
-    requires { length code.now ≤ 16384 }
-    ensures { IfOk result (λ lines. lines ≡ trace_of code.now) }
+/// The trace of a run of the code: one task at address 0 with an own window of 1,024 bytes, a shared window of the shared
+/// words and eight ports that latch and show 0, released once at time 0 with the word 0. Code and shared words are 16,384
+/// each at most. The run ends where the task is stopped, where 20,000,000 steps are done, or where the trace has 1,000,000
+/// lines. Its only refusal is `NoMemory`.
+pub fn run(alloc: Global, code: &[u32], words: &[u32]) -> Result<Items<Line>, NoMemory>
+    requires code { length code.now ≤ 16384 }
+    requires words { length words.now ≤ 16384 }
+    ensures { IfOk result (λ lines. lines ≡ trace_of code.now words.now) }
 {
-    let mut machine = Machine::new(alloc)?;
+    let mut machine = Machine::new(alloc, words)?;
     machine.release(alloc, 0, 0)?;
     'steps: for _ in 0..MOST_STEPS {
         if !machine.goes_on() {
@@ -68,14 +70,15 @@ pub fn run(alloc: Global, code: &[u32]) -> Result<Items<Line>, NoMemory>
 impl Machine {
     ghost use Rattle.em_run.specs.Machine.{state_of};
 
-    /// The machine before anything has happened.
-    fn new(alloc: Global) -> Result<Machine, NoMemory>
-        ensures { IfOk result (λ machine. state_of machine ≡ boot) }
+    /// The machine before anything has happened, with these shared words.
+    fn new(alloc: Global, words: &[u32]) -> Result<Machine, NoMemory>
+        requires { length words.now ≤ 16384 }
+        ensures { IfOk result (λ machine. state_of machine ≡ boot words.now) }
     {
         Ok(Machine {
             registers: Regs::new(0),
             own: Window::new(alloc, OWN_BASE, &[], OWN_LENGTH)?,
-            shared: Window::new(alloc, SHARED_BASE, &[], 0)?,
+            shared: Window::new(alloc, SHARED_BASE, words, 4 * words.len() as u32)?,
             stopped: false,
             ports: [0; 8],
             lines: Items::new(alloc),

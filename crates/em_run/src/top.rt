@@ -1,12 +1,15 @@
 //! The top call.
 ghost use Rattle.std.specs.Prelude.{◌≡◌, ◌≢◌, ◌⊎◌, ℕ, ◌+◌, ◌≤◌, List, [], ◌∷◌, length, map, take, string_bytes, codes};
+ghost use Rattle.em_base.specs.declared.images.Image.{Image};
+ghost use Rattle.em_base.specs.declared.refusals.Refusal.{Refusal};
 ghost use Rattle.em_io.specs.Bytes.{input_limit, Rose, Took};
 ghost use Rattle.em_run.specs.Output.{IsDue, ReadsAll, Wrote, reading, refusal_text, run_text};
-ghost use Rattle.em_run.specs.Program.{IsProgram, IsRefusedAt};
+ghost use Rattle.em_run.specs.Program.{IsProgram, IsRefused};
 
 use crate::answer::{decide, text_bytes};
 use crate::status::Status;
-use em_asm::one_meaning;
+use em_asm::one_image;
+use em_asm_read::one_meaning;
 use em_io::{Sink, Source, write_all};
 use std::alloc::Global;
 
@@ -30,7 +33,7 @@ pub fn emeralds<S: Source, K: Sink>(
     // The same, status by status: its cause, and the one line or the output that was written.
     ensures done { result ≡ Status.Done → (bytes : List ℕ)
         × ReadsAll (reading (S.left src.old) (S.left src.new) (S.faults src.old) (S.faults src.new)) bytes
-        × ((code : List ℕ) × IsProgram bytes code × Wrote (K.written out.old) (K.written out.new) (run_text code)) }
+        × ((image : Image) × IsProgram bytes image × Wrote (K.written out.old) (K.written out.new) (run_text image)) }
     ensures usage { result ≡ Status.Usage → (map string_bytes words.now ≢ codes "run" ∷ [])
         × (S.left src.new ≡ S.left src.old) × Wrote (K.written out.old) (K.written out.new) (codes "error usage\n") }
     ensures read_fault { result ≡ Status.ReadFault → Rose (S.faults src.old) (S.faults src.new)
@@ -41,7 +44,7 @@ pub fn emeralds<S: Source, K: Sink>(
         → Took (λ n. n ≤ input_limit) (S.left src.old) (S.left src.new) }
     ensures malformed { result ≡ Status.Malformed → (bytes : List ℕ)
         × ReadsAll (reading (S.left src.old) (S.left src.new) (S.faults src.old) (S.faults src.new)) bytes
-        × ((line : ℕ) × IsRefusedAt bytes line × Wrote (K.written out.old) (K.written out.new) (refusal_text 60 line)) }
+        × ((refusal : Refusal) × IsRefused bytes refusal × Wrote (K.written out.old) (K.written out.new) (refusal_text refusal.code refusal.line)) }
     ensures no_memory { result ≡ Status.NoMemory → (map string_bytes words.now ≡ codes "run" ∷ []) × Wrote (K.written out.old) (K.written out.new) (codes "error memory\n") }
 
     // Where the words are no command, the source is not touched.
@@ -54,8 +57,8 @@ pub fn emeralds<S: Source, K: Sink>(
         × Wrote (K.written out.old) (K.written out.new) (take n text)) }
 
     // Where nothing is amiss, the run is carried out, unless memory runs out.
-    ensures complete { (bytes code : List ℕ) → map string_bytes words.now ≡ codes "run" ∷ [] → S.left src.old ≡ Some bytes
-        → length bytes ≤ input_limit → IsProgram bytes code
+    ensures complete { (bytes : List ℕ) (image : Image) → map string_bytes words.now ≡ codes "run" ∷ [] → S.left src.old ≡ Some bytes
+        → length bytes ≤ input_limit → IsProgram bytes image
         → ¬ (Rose (S.faults src.old) (S.faults src.new)) → ¬ (Rose (K.faults out.old) (K.faults out.new))
         → (result ≡ Status.Done) ⊎ (result ≡ Status.NoMemory) }
 
@@ -63,8 +66,9 @@ pub fn emeralds<S: Source, K: Sink>(
     ensures source_grows { S.faults src.old ≤ S.faults src.new }
     ensures sink_grows { K.faults out.old ≤ K.faults out.new }
 {
-    // No line is both read and refused, which `complete` rests on.
+    // No input is both a program and refused, which `complete` rests on.
     one_meaning();
+    one_image();
     let due = decide(alloc, words, src);
     match write_all(out, text_bytes(&due.text)) {
         Ok(()) => due.status,

@@ -83,17 +83,15 @@ fn put_line(text: &mut String, line: &Line) -> Result<(), NoMemory>
     ensures { OnOk result (string_bytes text.new ≡ string_bytes text.old ++ line_text line.now) }
 {
     put_words(text, line)?;
-    match text.push('\n') {
-        Ok(()) => Ok(()),
-        Err(_) => Err(NoMemory),
-    }
+    text.push('\n')?;
+    Ok(())
 }
 
 /// Puts the words of a line at the end.
 fn put_words(text: &mut String, line: &Line) -> Result<(), NoMemory>
     ensures { OnOk result (string_bytes text.new ≡ string_bytes text.old ++ join_with_byte 32 (words_of line.now)) }
 {
-    let put = match *line {
+    match *line {
         Line::Rel {
             task: TaskId(task),
             job,
@@ -124,9 +122,6 @@ fn put_words(text: &mut String, line: &Line) -> Result<(), NoMemory>
             sem: Some(SemId(sem)),
         } => write!(text, "fault {task} {cause} {pc} {sem}"),
         Line::Exited { task: TaskId(task) } => write!(text, "exit {task}"),
-    };
-    match put {
-        Ok(()) => Ok(()),
-        Err(_) => Err(NoMemory),
-    }
+    }?;
+    Ok(())
 }

@@ -1,0 +1,12 @@
+pub mod Text
+pub mod Registers
+pub mod Mnemonics
+pub mod Labels
+pub mod Numbers
+pub mod Faults
+pub mod Operands
+pub mod Statements
+pub mod Fitting
+pub mod Grammar
+pub mod Cutting
+pub mod Lines
