@@ -1,0 +1,5 @@
+use Rattle.em_show.proofs.Backs.{instruction-back, text-back}
+use Rattle.em_show.proofs.laws.reads_back.Goals as goal
+
+pub returns : goal.returns
+returns c = record { instruction = instruction-back; word = text-back }

@@ -1,0 +1,14 @@
+//! The law of reading back.
+ghost use Rattle.std.specs.Prelude.{◌≡◌, ◌<◌, ◌^◌, ℕ, List};
+ghost use Rattle.em_isa.specs.declared.instructions.Instr.{Instr};
+ghost use Rattle.em_isa.specs.Encoding.{Fits, word_of};
+ghost use Rattle.em_show.specs.Back.{ReadsBack};
+ghost use Rattle.em_show.specs.Listing.{IsTextOf};
+ghost use Rattle.em_show.specs.Show.{text_of};
+
+/// What is written reads back: the text of an instruction is a line of one statement, whose code word is the instruction's,
+/// and so is the text that a listing has for a word.
+pub fn reads_back()
+    ensures instruction { (i : Instr) → Fits i → ReadsBack (text_of i) (word_of i) }
+    ensures word { (word : ℕ) (text : List ℕ) → word < 2 ^ 32 → IsTextOf word text → ReadsBack text word }
+{}

@@ -1,0 +1,14 @@
+//! Instructions and code as text.
+#![tactic(auto)]
+
+pub mod laws;
+pub mod listings;
+pub mod names;
+pub mod texts;
+
+pub use laws::reads_back;
+pub use listings::listing;
+pub use texts::show;
+
+#[cfg(test)]
+mod tests;
