@@ -8,4 +8,6 @@ mod code;
 #[cfg(test)]
 mod faults;
 #[cfg(test)]
+mod listings;
+#[cfg(test)]
 mod rows;

@@ -7,7 +7,7 @@ use em_run::{Line, Status, print_trace};
 use std::test::Fail;
 
 /// What a row shows, the words, the input, the output and the status.
-const INPUTS: [(&str, &str, &[u8], &str, Status); 19] = [
+const INPUTS: [(&str, &str, &[u8], &str, Status); 21] = [
     (
         "one word put to a port",
         "run",
@@ -82,6 +82,20 @@ const INPUTS: [(&str, &str, &[u8], &str, Status); 19] = [
     (
         "two words",
         "run run",
+        b"%code\n",
+        "error usage\n",
+        Status::Usage,
+    ),
+    (
+        "the words of two commands",
+        "run list",
+        b"%code\n",
+        "error usage\n",
+        Status::Usage,
+    ),
+    (
+        "a word of a command twice",
+        "list list",
         b"%code\n",
         "error usage\n",
         Status::Usage,

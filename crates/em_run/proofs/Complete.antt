@@ -10,6 +10,7 @@ use Rattle.em_asm_read.specs.Lines.{IsFaulty, IsLine}
 use Rattle.em_asm.specs.Image.{IsImageOf, IsRefused as IsRefusedByAssembler}
 use Rattle.em_run.specs.declared.status.Status.{Status}
 use Rattle.em_run.specs.declared.status.Status.TheVariants.{Done, Usage, ReadFault, WriteFault, TooLong, Malformed, NoMemory}
+use Rattle.em_run.specs.Commands.{HasCommand}
 use Rattle.em_run.specs.Output.{IsDue, Reading}
 use Rattle.em_run.specs.Program.{AllSay, Assembles, IsProgram, IsRefused, IsRefusedAfter, IsTextRefused, is_header, line_at}
 
@@ -71,11 +72,11 @@ read_all_of bytes taken (Some rest) e h =
     let same : bytes ≡ taken ++ rest = cc in
     sym (same ∙ ap (λ t. taken ++ t) h ∙ append-nil taken)
 
-pub complete : Laws → (words : List (List ℕ)) (r : Reading) (s : Status) (text bytes : List ℕ) (image : Image) → words ≡ codes "run" ∷ [] → r.left_before ≡ Some bytes → length bytes ≤ input_limit → IsProgram bytes image
+pub complete : Laws → (words : List (List ℕ)) (r : Reading) (s : Status) (text bytes : List ℕ) (image : Image) → HasCommand words → r.left_before ≡ Some bytes → length bytes ≤ input_limit → IsProgram bytes image
     → (Rose r.faults_before r.faults_after → ⊥) → IsDue words r s text → (s ≡ Done) ⊎ (s ≡ NoMemory)
 complete laws words r Done text bytes image w told few p still d = inl refl
 complete laws words r NoMemory text bytes image w told few p still d = inr refl
-complete laws words r Usage text bytes image w told few p still d = absurd (d.0 w)
+complete laws words r Usage text bytes image w told few p still d = absurd (d.0 w.0 w.1)
 complete laws words r ReadFault text bytes image w told few p still d = absurd (still d.2)
 complete laws words r WriteFault text bytes image w told few p still d = absurd d
 complete laws words r TooLong text bytes image w told few p still d =

@@ -5,5 +5,6 @@ pub mod Plain
 pub mod Machine
 pub mod Program
 pub mod Reading
+pub mod Commands
 pub mod Output
 pub mod Texts

@@ -1,18 +1,18 @@
 -- What the program answers and writes, by its words and by what it read: this project's own.
-use Rattle.std.specs.Prelude.{◌≡◌, ◌≢◌, ℕ, ◌+◌, ◌≤◌, List, [], ◌∷◌, ◌++◌, length, Option, codes}
+use Rattle.std.specs.Prelude.{◌≡◌, ℕ, ◌+◌, ◌≤◌, List, ◌++◌, length, Option, codes}
 use Rattle.std.specs.Fmt.{decimal}
 use Rattle.em_base.specs.declared.images.Image.{Image}
 use Rattle.em_base.specs.declared.refusals.Refusal.{Refusal}
 use Rattle.em_io.specs.Bytes.{input_limit, Rose, then_left, and_then, IsAtEnd, Took}
+use Rattle.em_show.specs.Listing.{IsListing}
+use Rattle.em_run.specs.declared.commands.Command.{Command}
+use Rattle.em_run.specs.declared.commands.Command.TheVariants.{Run, List as ListCode}
 use Rattle.em_run.specs.declared.status.Status.{Status}
 use Rattle.em_run.specs.declared.status.Status.TheVariants.{Done, Usage, ReadFault, WriteFault, TooLong, Malformed, NoMemory}
+use Rattle.em_run.specs.Commands.{HasCommand, IsCommand, IsNoCommand}
 use Rattle.em_run.specs.Trace.{lines_text}
 use Rattle.em_run.specs.Plain.{trace_of}
 use Rattle.em_run.specs.Program.{IsProgram, IsRefused}
-
--- the words after the program's name are the one word `run`
-abbrev pub IsRun : List (List ℕ) → Type 0
-IsRun words = words ≡ codes "run" ∷ []
 
 -- a source before a call and after it: what it has left, where it tells that, and its count of faults
 pub record Reading : Type 0 where
@@ -48,35 +48,40 @@ run_text image = codes "%trace\n" ++ lines_text (trace_of image.words image.shar
 abbrev pub refusal_text : ℕ → ℕ → List ℕ
 refusal_text code line = codes "error " ++ decimal code ++ codes " line " ++ decimal line ++ codes "\n"
 
--- the bytes are a program, and the text is that of its run
-abbrev pub IsRunText : List ℕ → List ℕ → Type 0
-IsRunText bytes text = (image : Image) × IsProgram bytes image × (text ≡ run_text image)
+-- the text is what the command writes of an image: the trace of its run, or the listing of its code
+abbrev pub IsOutput : Command → Image → List ℕ → Type 0
+IsOutput Run image text = text ≡ run_text image
+IsOutput ListCode image text = IsListing 0 image.words text
+
+-- the bytes are a program, and the text is what the command writes of it
+abbrev pub IsOutputOf : Command → List ℕ → List ℕ → Type 0
+IsOutputOf command bytes text = (image : Image) × IsProgram bytes image × IsOutput command image text
 
 -- the bytes are refused, and the text names the code and the line
 abbrev pub IsRefusalText : List ℕ → List ℕ → Type 0
 IsRefusalText bytes text = (refusal : Refusal) × IsRefused bytes refusal × (text ≡ refusal_text refusal.code refusal.line)
 
--- what is due for bytes that were read to their end
-abbrev pub IsAnswerTo : List ℕ → Status → List ℕ → Type 0
-IsAnswerTo bytes Done text = IsRunText bytes text
-IsAnswerTo bytes Malformed text = IsRefusalText bytes text
-IsAnswerTo bytes NoMemory text = text ≡ codes "error memory\n"
-IsAnswerTo bytes Usage text = ⊥
-IsAnswerTo bytes ReadFault text = ⊥
-IsAnswerTo bytes WriteFault text = ⊥
-IsAnswerTo bytes TooLong text = ⊥
+-- what is due for a command and bytes that were read to their end
+abbrev pub IsAnswerTo : Command → List ℕ → Status → List ℕ → Type 0
+IsAnswerTo command bytes Done text = IsOutputOf command bytes text
+IsAnswerTo command bytes Malformed text = IsRefusalText bytes text
+IsAnswerTo command bytes NoMemory text = text ≡ codes "error memory\n"
+IsAnswerTo command bytes Usage text = ⊥
+IsAnswerTo command bytes ReadFault text = ⊥
+IsAnswerTo command bytes WriteFault text = ⊥
+IsAnswerTo command bytes TooLong text = ⊥
 
 -- each status, its cause and the text that is due with it. The words are looked at first, then the source, then the
 -- length, then the form. Want of memory comes only with the words of a command, and needs no other cause. A fault of
 -- writing has no text of its own.
 abbrev pub IsDue : List (List ℕ) → Reading → Status → List ℕ → Type 0
-IsDue words r Done text = IsRun words × ((bytes : List ℕ) × ReadsAll r bytes × IsRunText bytes text)
-IsDue words r Usage text =
-    (words ≢ codes "run" ∷ []) × (r.left_after ≡ r.left_before) × (text ≡ codes "error usage\n")
+IsDue words r Done text =
+    (command : Command) × IsCommand words command × ((bytes : List ℕ) × ReadsAll r bytes × IsOutputOf command bytes text)
+IsDue words r Usage text = IsNoCommand words × (r.left_after ≡ r.left_before) × (text ≡ codes "error usage\n")
 IsDue words r ReadFault text =
-    IsRun words × ReadsWithin r × Rose r.faults_before r.faults_after × (text ≡ codes "error read\n")
+    HasCommand words × ReadsWithin r × Rose r.faults_before r.faults_after × (text ≡ codes "error read\n")
 IsDue words r WriteFault text = ⊥
 IsDue words r TooLong text =
-    IsRun words × Took (λ n. n ≡ input_limit + 1) r.left_before r.left_after × (text ≡ codes "error too long\n")
-IsDue words r Malformed text = IsRun words × ((bytes : List ℕ) × ReadsAll r bytes × IsRefusalText bytes text)
-IsDue words r NoMemory text = IsRun words × ReadsWithin r × (text ≡ codes "error memory\n")
+    HasCommand words × Took (λ n. n ≡ input_limit + 1) r.left_before r.left_after × (text ≡ codes "error too long\n")
+IsDue words r Malformed text = HasCommand words × ((bytes : List ℕ) × ReadsAll r bytes × IsRefusalText bytes text)
+IsDue words r NoMemory text = HasCommand words × ReadsWithin r × (text ≡ codes "error memory\n")

@@ -2,6 +2,7 @@
 #![tactic(auto)]
 
 pub mod answer;
+pub mod commands;
 pub mod machine;
 pub mod program;
 pub mod status;

@@ -3,7 +3,9 @@ ghost use Rattle.std.specs.Prelude.{◌≡◌, ◌≢◌, ◌⊎◌, ℕ, ◌+�
 ghost use Rattle.em_base.specs.declared.images.Image.{Image};
 ghost use Rattle.em_base.specs.declared.refusals.Refusal.{Refusal};
 ghost use Rattle.em_io.specs.Bytes.{input_limit, Rose, Took};
-ghost use Rattle.em_run.specs.Output.{IsDue, ReadsAll, Wrote, reading, refusal_text, run_text};
+ghost use Rattle.em_run.specs.declared.commands.Command.{Command};
+ghost use Rattle.em_run.specs.Commands.{HasCommand, IsCommand, IsNoCommand};
+ghost use Rattle.em_run.specs.Output.{IsDue, IsOutput, ReadsAll, Wrote, reading, refusal_text};
 ghost use Rattle.em_run.specs.Program.{IsProgram, IsRefused};
 
 use crate::answer::{decide, text_bytes};
@@ -13,8 +15,9 @@ use em_asm_read::one_meaning;
 use em_io::{Sink, Source, write_all};
 use std::alloc::Global;
 
-/// All that the program does. `words` are the words after its name. The one command is `run`: it reads the source to its
-/// end, runs the program that the bytes stand for, and writes the trace.
+/// All that the program does. `words` are the words after its name: the one word `run`, or the one word `list`. Both read
+/// the source to its end; `run` then runs the program that the bytes stand for, and writes the trace, and `list` writes the
+/// listing of its code.
 ///
 /// The words are looked at first, then the source, then the length of what was read, then its form; the first that is
 /// amiss decides the status. Each status but `WriteFault` has one text, which is made first and then written whole;
@@ -31,10 +34,11 @@ pub fn emeralds<S: Source, K: Sink>(
         × Wrote (K.written out.old) (K.written out.new) text }
 
     // The same, status by status: its cause, and the one line or the output that was written.
-    ensures done { result ≡ Status.Done → (bytes : List ℕ)
-        × ReadsAll (reading (S.left src.old) (S.left src.new) (S.faults src.old) (S.faults src.new)) bytes
-        × ((image : Image) × IsProgram bytes image × Wrote (K.written out.old) (K.written out.new) (run_text image)) }
-    ensures usage { result ≡ Status.Usage → (map string_bytes words.now ≢ codes "run" ∷ [])
+    ensures done { result ≡ Status.Done → (command : Command) × IsCommand (map string_bytes words.now) command
+        × ((bytes : List ℕ) × ReadsAll (reading (S.left src.old) (S.left src.new) (S.faults src.old) (S.faults src.new)) bytes
+        × ((image : Image) × IsProgram bytes image
+        × ((text : List ℕ) × IsOutput command image text × Wrote (K.written out.old) (K.written out.new) text))) }
+    ensures usage { result ≡ Status.Usage → IsNoCommand (map string_bytes words.now)
         × (S.left src.new ≡ S.left src.old) × Wrote (K.written out.old) (K.written out.new) (codes "error usage\n") }
     ensures read_fault { result ≡ Status.ReadFault → Rose (S.faults src.old) (S.faults src.new)
         × Wrote (K.written out.old) (K.written out.new) (codes "error read\n") }
@@ -45,10 +49,10 @@ pub fn emeralds<S: Source, K: Sink>(
     ensures malformed { result ≡ Status.Malformed → (bytes : List ℕ)
         × ReadsAll (reading (S.left src.old) (S.left src.new) (S.faults src.old) (S.faults src.new)) bytes
         × ((refusal : Refusal) × IsRefused bytes refusal × Wrote (K.written out.old) (K.written out.new) (refusal_text refusal.code refusal.line)) }
-    ensures no_memory { result ≡ Status.NoMemory → (map string_bytes words.now ≡ codes "run" ∷ []) × Wrote (K.written out.old) (K.written out.new) (codes "error memory\n") }
+    ensures no_memory { result ≡ Status.NoMemory → HasCommand (map string_bytes words.now) × Wrote (K.written out.old) (K.written out.new) (codes "error memory\n") }
 
     // Where the words are no command, the source is not touched.
-    ensures unread { map string_bytes words.now ≢ codes "run" ∷ [] → src.new ≡ src.old }
+    ensures unread { IsNoCommand (map string_bytes words.now) → src.new ≡ src.old }
 
     // Where the sink failed, a first part of the text that was due was written, and the sink's count says that it failed.
     ensures write_fault { result ≡ Status.WriteFault → Rose (K.faults out.old) (K.faults out.new)
@@ -56,8 +60,8 @@ pub fn emeralds<S: Source, K: Sink>(
         × IsDue (map string_bytes words.now) (reading (S.left src.old) (S.left src.new) (S.faults src.old) (S.faults src.new)) status text
         × Wrote (K.written out.old) (K.written out.new) (take n text)) }
 
-    // Where nothing is amiss, the run is carried out, unless memory runs out.
-    ensures complete { (bytes : List ℕ) (image : Image) → map string_bytes words.now ≡ codes "run" ∷ [] → S.left src.old ≡ Some bytes
+    // Where nothing is amiss, the command is carried out, unless memory runs out.
+    ensures complete { (bytes : List ℕ) (image : Image) → HasCommand (map string_bytes words.now) → S.left src.old ≡ Some bytes
         → length bytes ≤ input_limit → IsProgram bytes image
         → ¬ (Rose (S.faults src.old) (S.faults src.new)) → ¬ (Rose (K.faults out.old) (K.faults out.new))
         → (result ≡ Status.Done) ⊎ (result ≡ Status.NoMemory) }
