@@ -51,7 +51,7 @@ refusal_text code line = codes "error " ++ decimal code ++ codes " line " ++ dec
 -- the text is what the command writes of an image: the trace of its run, or the listing of its code
 abbrev pub IsOutput : Command → Image → List ℕ → Type 0
 IsOutput Run image text = text ≡ run_text image
-IsOutput ListCode image text = IsListing 0 image.words text
+IsOutput ListCode image text = IsListing image.words text
 
 -- the bytes are a program, and the text is what the command writes of it
 abbrev pub IsOutputOf : Command → List ℕ → List ℕ → Type 0

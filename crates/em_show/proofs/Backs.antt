@@ -3,7 +3,7 @@ use Rattle.std.proofs.Common.{◌≡◌, ℕ, ◌^◌, ◌<◌, ℤ, pos, negsuc
 use Rattle.std.proofs.lemmas.Bool.Decides.{nat_tests}
 use Rattle.std.proofs.lemmas.Int.{ints}
 use Rattle.std.specs.Fmt.{decimal, signed_decimal}
-use Rattle.std.specs.Prelude.{unsigned_abs, ◌%◌}
+use Rattle.std.specs.Prelude.{slice_index, unsigned_abs, ◌%◌}
 use Rattle.std.specs.Bool.{MatchBool}
 use Rattle.em_isa.specs.declared.instructions.Instr.{Instr}
 use Rattle.em_isa.specs.declared.instructions.Instr.TheVariants.{Lui, Auipc, Jal, Jalr, Branch, Load, Store, OpImm, Op, Fence, Ecall, Ebreak}
@@ -25,7 +25,7 @@ use Rattle.std.specs.List.{list_all}
 use Rattle.em_show.specs.Back.{ReadsBack, one_word}
 use Rattle.em_show.specs.Listing.{IsTextOf}
 use Rattle.em_show.specs.Show.{address_text, branch_names, hexadecimal, immediate_name, is_whole_fence, load_names, name_at, operation_name, raw_text, register_text, spelled, store_names, text_of}
-use Rattle.em_show.proofs.Named.{IsNamed, operation-named, immediate-named, branch-named, load-named, store-named, jal-named, jalr-named, lui-named, auipc-named, fence-named, ecall-named, ebreak-named, code-named}
+use Rattle.em_show.proofs.Named.{IsNamed, IsPlainFirst, operation-named, immediate-named, branch-named, load-named, store-named, jal-named, jalr-named, lui-named, auipc-named, fence-named, ecall-named, ebreak-named, code-named}
 use Rattle.em_show.proofs.Numbers.{IsSmall, address-back, address-token, hexadecimal-back, hexadecimal-token, number-back, number-token, register-back, register-token, target-back}
 use Rattle.em_show.proofs.Tokens.{is_token, parts-alone, parts-spelled}
 
@@ -242,3 +242,34 @@ instruction-back Ebreak h = alone-back (codes "ebreak") EbreakBy (One Ebreak) (w
 pub text-back : (word : ℕ) (text : List ℕ) → word < 2 ^ 32 → IsTextOf word text → ReadsBack text word
 text-back word text h (inl (i, fits, is, same)) = subst (λ t. ReadsBack t word) (sym same) (subst (λ w. ReadsBack (text_of i) w) is (instruction-back i fits))
 text-back word text h (inr (none, same)) = subst (λ t. ReadsBack t word) (sym same) (raw-back word h)
+
+-- ---- no text begins with a percent sign
+
+spelled-first : (name : List ℕ) (mnemonic : Mnemonic) (operands : List (List ℕ)) → IsNamed name mnemonic → IsPlainFirst (spelled name operands)
+spelled-first [] mnemonic operands h = absurd (cc)
+spelled-first (c ∷ cs) mnemonic operands h = h.2
+
+first-of : (i : Instr) → Fits i → IsPlainFirst (text_of i)
+first-of (Lui rd imm) h = refl
+first-of (Auipc rd imm) h = refl
+first-of (Jal rd offset) h = refl
+first-of (Jalr rd rs1 imm) h = refl
+first-of (Branch op rs1 rs2 offset) h = spelled-first (name_at branch_names op) (BranchBy op) (register_text rs1 ∷ register_text rs2 ∷ signed_decimal offset ∷ []) (branch-named op h.0)
+first-of (Load op rd rs1 imm) h = spelled-first (name_at load_names op) (LoadBy op) (register_text rd ∷ address_text imm rs1 ∷ []) (load-named op h.0)
+first-of (Store op rs1 rs2 imm) h = spelled-first (name_at store_names op) (StoreBy op) (register_text rs2 ∷ address_text imm rs1 ∷ []) (store-named op h.0)
+first-of (OpImm op alt rd rs1 imm) h = spelled-first (immediate_name op alt) (Immediate op alt) (register_text rd ∷ register_text rs1 ∷ signed_decimal imm ∷ []) (immediate-named op alt h.0 h.1)
+first-of (Op op alt rd rs1 rs2) h = spelled-first (operation_name op alt) (Operation op alt) (register_text rd ∷ register_text rs1 ∷ register_text rs2 ∷ []) (operation-named op alt h.0 h.1)
+first-of (Fence rd rs1 imm) h = by-kind (is_whole_fence rd rs1 imm)
+  where
+    by-kind : (b : Bool) → IsPlainFirst (if b then codes "fence" else raw_text (word_of (Fence rd rs1 imm)))
+    by-kind true = refl
+    by-kind false = refl
+first-of Ecall h = refl
+first-of Ebreak h = refl
+
+other-than : (byte : ℕ) → nat_eq byte 37 ≡ false → byte ≡ 37 → ⊥
+other-than byte h e = grind (arith, nat_tests, h, e)
+
+pub text-first : (word : ℕ) (text : List ℕ) → IsTextOf word text → slice_index text 0 ≡ 37 → ⊥
+text-first word text (inl (i, fits, is, same)) = other-than (slice_index text 0) (subst IsPlainFirst (sym same) (first-of i fits))
+text-first word text (inr (none, same)) = other-than (slice_index text 0) (subst IsPlainFirst (sym same) refl)

@@ -14,9 +14,17 @@ IsTextOf word text =
 abbrev pub listed_line : ℕ → ℕ → List ℕ → List ℕ
 listed_line address word text = hexadecimal address ++ codes ": " ++ hexadecimal word ++ codes " " ++ text ++ codes "\n"
 
--- the lines of code words, of which the first stands at this place, counted from 0
-abbrev pub IsListing : ℕ → List ℕ → List ℕ → Type 0
-IsListing place [] text = text ≡ []
-IsListing place (word ∷ words) text =
-    (own : List ℕ) × (rest : List ℕ) × IsTextOf word own × IsListing (suc place) words rest
-    × (text ≡ listed_line (4 * place) word own ++ rest)
+-- each text is that of the word at its place
+abbrev pub AreTextsOf : List ℕ → List (List ℕ) → Type 0
+AreTextsOf [] texts = texts ≡ []
+AreTextsOf (word ∷ words) texts =
+    (text : List ℕ) × (rest : List (List ℕ)) × (texts ≡ text ∷ rest) × IsTextOf word text × AreTextsOf words rest
+
+-- the lines of code words with their texts; the first word stands at this place, counted from 0
+abbrev pub listed_lines : ℕ → List ℕ → List (List ℕ) → List ℕ
+listed_lines place (word ∷ words) (text ∷ texts) = listed_line (4 * place) word text ++ listed_lines (suc place) words texts
+listed_lines place _ _ = []
+
+-- the listing of code words: a line for each, with its text
+abbrev pub IsListing : List ℕ → List ℕ → Type 0
+IsListing words listing = (texts : List (List ℕ)) × AreTextsOf words texts × (listing ≡ listed_lines 0 words texts)

@@ -13,7 +13,7 @@ use std::alloc::Global;
 /// `NoMemory`.
 pub fn listing(alloc: Global, image: &Image) -> Result<String, NoMemory>
     requires { length image.now.words ≤ 16384 }
-    ensures { IfOk result (λ text. IsListing 0 image.now.words (string_bytes text)) }
+    ensures { IfOk result (λ text. IsListing image.now.words (string_bytes text)) }
 {
     words_listing(alloc, image.words.as_slice())
 }
@@ -21,7 +21,7 @@ pub fn listing(alloc: Global, image: &Image) -> Result<String, NoMemory>
 /// The listing of code words.
 fn words_listing(alloc: Global, words: &[u32]) -> Result<String, NoMemory>
     requires { length words.now ≤ 16384 }
-    ensures { IfOk result (λ text. IsListing 0 words.now (string_bytes text)) }
+    ensures { IfOk result (λ text. IsListing words.now (string_bytes text)) }
 {
     let mut text = String::new(alloc);
     for (place, word) in words.iter().enumerate() {

@@ -8,4 +8,4 @@ loop-place-preserved c =
     let words = c.args.words.now in
     let i = c.loop-place.place in
     let line = c.in_ok-put_line.ensures in
-    subst (IsListing 0 (take (i + 1) words)) (sym line.2) (listing-next words i (string_bytes c.loop-place.text) line.0 c.loop-place-test.true c.loop-place.invariant line.1)
+    subst (IsListing (take (i + 1) words)) (sym line.2) (listing-next words i (string_bytes c.loop-place.text) line.0 c.loop-place-test.true c.loop-place.invariant line.1)
