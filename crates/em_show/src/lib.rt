@@ -6,7 +6,7 @@ pub mod listings;
 pub mod names;
 pub mod texts;
 
-pub use laws::reads_back;
+pub use laws::{one_text, reads_back};
 pub use listings::listing;
 pub use texts::show;
 
