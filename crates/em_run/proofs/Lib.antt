@@ -1,3 +1,4 @@
+pub mod Again
 pub mod Complete
 pub mod Reading
 pub mod Stepping

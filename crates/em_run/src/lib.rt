@@ -3,12 +3,14 @@
 
 pub mod answer;
 pub mod commands;
+pub mod laws;
 pub mod machine;
 pub mod program;
 pub mod status;
 pub mod top;
 pub mod trace;
 
+pub use laws::lists_again;
 pub use status::Status;
 pub use top::emeralds;
 pub use trace::{Line, print_trace};
