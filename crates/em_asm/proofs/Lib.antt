@@ -3,6 +3,6 @@ pub mod Gathered
 pub mod Layouts
 pub mod Sized
 pub mod Aligned
-pub mod Listing
+pub mod Whole
 pub mod Unique
 pub mod Loading

@@ -3,7 +3,7 @@ use Rattle.std.proofs.Common.{◌≡◌, ℕ, ◌*◌, ◌/◌, ◌%◌, ◌<◌
 use Rattle.std.specs.Prelude.{Option, None}
 use Rattle.std.proofs.lemmas.Bool.{cond-true, cond-false, eq-eqb, ne_eqb, lt-ltb, le-ltb, and_from, and_left, and_right}
 use Rattle.em_hart.specs.Hart.{Registers, Memory}
-use Rattle.em_hart.specs.Listing.{Mnemonic, mnemonic}
+use Rattle.em_hart.specs.InstructionTable.{Mnemonic, mnemonic}
 use Rattle.em_hart.specs.Instruction.{Fault, exec, carried_out, is_inside_code, outside_code, no_instruction}
 
 -- what the code tests tells whether the address is inside

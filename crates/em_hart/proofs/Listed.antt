@@ -7,7 +7,7 @@ use Rattle.em_isa.specs.declared.instructions.Instr.{Instr}
 use Rattle.em_isa.specs.declared.instructions.Instr.TheVariants.{Lui, Auipc, Jal, Jalr, Branch, Load, Store, OpImm, Op, Fence, Ecall, Ebreak}
 use Rattle.em_isa.specs.Encoding.{Fits, word_of, is_one_of, is_shift, IsWithin, IsOffset, twos_complement, operation_kind, shift_kind, r_format, i_format, s_format, b_format, u_format, j_format}
 use Rattle.em_hart.specs.Fields.{opcode, rd, funct3, rs1, rs2, funct7}
-use Rattle.em_hart.specs.Listing.{Mnemonic, Pattern, by_opcode, by_funct3, by_funct7, by_word, is_of, Row, listing, first_row, mnemonic}
+use Rattle.em_hart.specs.InstructionTable.{Mnemonic, Pattern, by_opcode, by_funct3, by_funct7, by_word, is_of, Row, instruction_table, first_row, mnemonic}
 
 -- the word of an instruction that fits
 pub record IsWord (w : ℕ) : Type 0 where
@@ -208,8 +208,8 @@ row_found o f g w A (r ∷ rows) name (one_more p q) e =
       | inr n ↦ row_found o f g w A rows name q (sym (cond-false (is_of r.pattern o f g w) (Some r.named) (first_row rows o f g w) n) ∙ e)
     ]
 
-each_listed : (w : ℕ) → w < 2 ^ 32 → EachRow (λ r. OfPattern w r.pattern → IsWord w) listing
-unfolding listing
+each_listed : (w : ℕ) → w < 2 ^ 32 → EachRow (λ r. OfPattern w r.pattern → IsWord w) instruction_table
+unfolding instruction_table
 each_listed w h =
     word_lui w h
     ▸ word_auipc w h
@@ -256,7 +256,7 @@ each_listed w h =
 -- what is listed is the word of an instruction that fits
 pub word_from_listed : (w : ℕ) → w < 2 ^ 32 → (name : Mnemonic) → mnemonic w ≡ Some name → IsWord w
 unfolding mnemonic
-word_from_listed w h name e = row_found (opcode w) (funct3 w) (funct7 w) w (IsWord w) listing name (each_listed w h) e
+word_from_listed w h name e = row_found (opcode w) (funct3 w) (funct7 w) w (IsWord w) instruction_table name (each_listed w h) e
 
 -- a word that no instruction has is not listed
 pub none_listed : (w : ℕ) → w < 2 ^ 32 → (IsWord w → ⊥) → mnemonic w ≡ None

@@ -9,24 +9,24 @@ use Rattle.em_isa.specs.declared.instructions.Instr.{Instr}
 use Rattle.em_isa.specs.declared.instructions.Instr.TheVariants.{Lui, Auipc, Jal, Jalr, Branch, Load, Store, OpImm, Op, Fence, Ecall, Ebreak}
 use Rattle.em_isa.specs.Encoding.{Fits, word_of, is_one_of, is_shift, IsImmediate, IsShiftAmount, IsOffset, twos_complement, operation_kind, shift_kind, i_format}
 use Rattle.em_hart.specs.Fields.{opcode, funct3, funct7, shamt, imm_i, imm_s, imm_b}
-use Rattle.em_hart.specs.Listing.{Mnemonic, lui, auipc, jal, jalr, beq, bne, blt, bge, bltu, bgeu, lb, lh, lw, lbu, lhu, sb, sh, sw, addi, slti, sltiu, xori, ori, andi, slli, srli, srai, add, sub, sll, slt, sltu, xor, srl, sra, or, and, fence, ecall, ebreak, listing, first_row, mnemonic}
+use Rattle.em_hart.specs.InstructionTable.{Mnemonic, lui, auipc, jal, jalr, beq, bne, blt, bge, bltu, bgeu, lb, lh, lw, lbu, lhu, sb, sh, sw, addi, slti, sltiu, xori, ori, andi, slli, srli, srai, add, sub, sll, slt, sltu, xor, srl, sra, or, and, fence, ecall, ebreak, instruction_table, first_row, mnemonic}
 use Rattle.em_hart.specs.Effect.{writes, jumps, jumps_by_register, branches, loads, stores, effect, sum, even, amount, shifted_left, shifted_right, shifted_right_signed}
 use Rattle.em_hart.specs.Decoded.{computed, compared, width_of, is_signed, effect_of}
 use Rattle.em_hart.proofs.Formats.{r_opcode, r_funct3, r_funct7, i_opcode, i_funct3, i_funct7, i_shamt, i_imm, s_imm, b_is_r, b_imm, u_opcode, u_imm, j_is_u, j_imm}
 
--- the instruction of a word, by the listing, and what it does
+-- the instruction of a word, by the instruction table, and what it does
 pub record IsNamed (i : Instr) : Type 0 where
   pub name : Mnemonic
   pub listed : mnemonic (word_of i) ≡ Some name
   pub does : (pc a b : ℕ) → effect name (word_of i) pc a b ≡ effect_of i pc a b
 
 -- a row is found by the fields
-found : (w o f g : ℕ) (r : Option Mnemonic) → opcode w ≡ o → funct3 w ≡ f → funct7 w ≡ g → first_row listing o f g w ≡ r → mnemonic w ≡ r
+found : (w o f g : ℕ) (r : Option Mnemonic) → opcode w ≡ o → funct3 w ≡ f → funct7 w ≡ g → first_row instruction_table o f g w ≡ r → mnemonic w ≡ r
 unfolding mnemonic
 found w o f g r p q s e =
-    ap (λ (x : ℕ). first_row listing x (funct3 w) (funct7 w) w) p
-    ∙ ap (λ (x : ℕ). first_row listing o x (funct7 w) w) q
-    ∙ ap (λ (x : ℕ). first_row listing o f x w) s ∙ e
+    ap (λ (x : ℕ). first_row instruction_table x (funct3 w) (funct7 w) w) p
+    ∙ ap (λ (x : ℕ). first_row instruction_table o x (funct7 w) w) q
+    ∙ ap (λ (x : ℕ). first_row instruction_table o f x w) s ∙ e
 
 -- a fact about each number below 8
 by_eight : (P : ℕ → Type 0) → P 0 → P 1 → P 2 → P 3 → P 4 → P 5 → P 6 → P 7 → (n : ℕ) → n < 8 → P n
@@ -43,7 +43,7 @@ by_eight P a b c d e f g h (suc (suc (suc (suc (suc (suc (suc (suc n)))))))) l =
 -- ---- OP
 
 op_row : (name : Mnemonic) (op : ℕ) (alt : Bool) (d s t : ℕ) → d < 32 → s < 32 → t < 32 → op < 8
-    → ((w : ℕ) → first_row listing 0b0110011 op (operation_kind alt) w ≡ Some name)
+    → ((w : ℕ) → first_row instruction_table 0b0110011 op (operation_kind alt) w ≡ Some name)
     → ((w pc a b : ℕ) → effect name w pc a b ≡ writes (computed op alt a b))
     → operation_kind alt < 128 → IsNamed (Op op alt d s t)
 op_row name op alt d s t k l m h e f g = record {
@@ -56,42 +56,42 @@ abbrev OpNamed : ℕ → Type 0
 OpNamed op = (alt : Bool) (d s t : ℕ) → OnTrue alt (IsTrue (is_one_of op (0 ∷ 5 ∷ []))) → d < 32 → s < 32 → t < 32 → IsNamed (Op op alt d s t)
 
 op_add : OpNamed 0
-unfolding first_row listing effect computed
+unfolding first_row instruction_table effect computed
 op_add false d s t h k l m = op_row add 0 false d s t k l m (omega arith) (λ w. refl) (λ w pc a b. refl) (omega arith)
 op_add true d s t h k l m = op_row sub 0 true d s t k l m (omega arith) (λ w. refl) (λ w pc a b. refl) (omega arith)
 
 op_sll : OpNamed 1
-unfolding first_row listing effect computed
+unfolding first_row instruction_table effect computed
 op_sll false d s t h k l m = op_row sll 1 false d s t k l m (omega arith) (λ w. refl) (λ w pc a b. refl) (omega arith)
 op_sll true d s t h k l m = absurd (false≢true h)
 
 op_slt : OpNamed 2
-unfolding first_row listing effect computed
+unfolding first_row instruction_table effect computed
 op_slt false d s t h k l m = op_row slt 2 false d s t k l m (omega arith) (λ w. refl) (λ w pc a b. refl) (omega arith)
 op_slt true d s t h k l m = absurd (false≢true h)
 
 op_sltu : OpNamed 3
-unfolding first_row listing effect computed
+unfolding first_row instruction_table effect computed
 op_sltu false d s t h k l m = op_row sltu 3 false d s t k l m (omega arith) (λ w. refl) (λ w pc a b. refl) (omega arith)
 op_sltu true d s t h k l m = absurd (false≢true h)
 
 op_xor : OpNamed 4
-unfolding first_row listing effect computed
+unfolding first_row instruction_table effect computed
 op_xor false d s t h k l m = op_row xor 4 false d s t k l m (omega arith) (λ w. refl) (λ w pc a b. refl) (omega arith)
 op_xor true d s t h k l m = absurd (false≢true h)
 
 op_srl : OpNamed 5
-unfolding first_row listing effect computed
+unfolding first_row instruction_table effect computed
 op_srl false d s t h k l m = op_row srl 5 false d s t k l m (omega arith) (λ w. refl) (λ w pc a b. refl) (omega arith)
 op_srl true d s t h k l m = op_row sra 5 true d s t k l m (omega arith) (λ w. refl) (λ w pc a b. refl) (omega arith)
 
 op_or : OpNamed 6
-unfolding first_row listing effect computed
+unfolding first_row instruction_table effect computed
 op_or false d s t h k l m = op_row or 6 false d s t k l m (omega arith) (λ w. refl) (λ w pc a b. refl) (omega arith)
 op_or true d s t h k l m = absurd (false≢true h)
 
 op_and : OpNamed 7
-unfolding first_row listing effect computed
+unfolding first_row instruction_table effect computed
 op_and false d s t h k l m = op_row and 7 false d s t k l m (omega arith) (λ w. refl) (λ w pc a b. refl) (omega arith)
 op_and true d s t h k l m = absurd (false≢true h)
 
@@ -101,7 +101,7 @@ op_named op h = by_eight OpNamed op_add op_sll op_slt op_sltu op_xor op_srl op_o
 -- ---- OP-IMM
 
 imm_row : (name : Mnemonic) (op d s : ℕ) (imm : ℤ) → d < 32 → s < 32 → op < 8 → IsImmediate imm
-    → ((g w : ℕ) → first_row listing 0b0010011 op g w ≡ Some name)
+    → ((g w : ℕ) → first_row instruction_table 0b0010011 op g w ≡ Some name)
     → ((w pc a b : ℕ) → effect name w pc a b ≡ writes (computed op false a (imm_i w)))
     → IsNamed (OpImm op false d s imm)
 imm_row name op d s imm k l h i e f =
@@ -115,7 +115,7 @@ imm_row name op d s imm k l h i e f =
     }
 
 shift_row : (name : Mnemonic) (op g d s n : ℕ) (alt : Bool) (shift : ℕ → ℕ → ℕ) → d < 32 → s < 32 → op < 8 → n < 32 → g < 128 → shift_kind alt ≡ g * 32
-    → ((w : ℕ) → first_row listing 0b0010011 op g w ≡ Some name)
+    → ((w : ℕ) → first_row instruction_table 0b0010011 op g w ≡ Some name)
     → ((w pc a b : ℕ) → effect name w pc a b ≡ writes (shift a (shamt w)))
     → ((a : ℕ) → computed op alt a n ≡ shift a (amount n))
     → IsNamed (OpImm op alt d s (pos n))
@@ -136,44 +136,44 @@ abbrev ImmNamed : ℕ → Type 0
 ImmNamed op = (alt : Bool) (d s : ℕ) (imm : ℤ) → OnTrue alt (op ≡ 5) → d < 32 → s < 32 → MatchBool (is_shift op) (IsShiftAmount imm) (IsImmediate imm) → IsNamed (OpImm op alt d s imm)
 
 imm_addi : ImmNamed 0
-unfolding first_row listing effect computed
+unfolding first_row instruction_table effect computed
 imm_addi false d s imm h k l i = imm_row addi 0 d s imm k l (omega arith) i (λ g w. refl) (λ w pc a b. refl)
 imm_addi true d s imm h k l i = absurd (omega arith)
 
 imm_slli : ImmNamed 1
-unfolding first_row listing effect computed
+unfolding first_row instruction_table effect computed
 imm_slli false d s (pos n) h k l i = shift_row slli 1 0 d s n false shifted_left k l (omega arith) i (omega arith) refl (λ w. refl) (λ w pc a b. refl) (λ a. refl)
 imm_slli false d s (negsuc n) h k l i = absurd i
 imm_slli true d s imm h k l i = absurd (omega arith)
 
 imm_slti : ImmNamed 2
-unfolding first_row listing effect computed
+unfolding first_row instruction_table effect computed
 imm_slti false d s imm h k l i = imm_row slti 2 d s imm k l (omega arith) i (λ g w. refl) (λ w pc a b. refl)
 imm_slti true d s imm h k l i = absurd (omega arith)
 
 imm_sltiu : ImmNamed 3
-unfolding first_row listing effect computed
+unfolding first_row instruction_table effect computed
 imm_sltiu false d s imm h k l i = imm_row sltiu 3 d s imm k l (omega arith) i (λ g w. refl) (λ w pc a b. refl)
 imm_sltiu true d s imm h k l i = absurd (omega arith)
 
 imm_xori : ImmNamed 4
-unfolding first_row listing effect computed
+unfolding first_row instruction_table effect computed
 imm_xori false d s imm h k l i = imm_row xori 4 d s imm k l (omega arith) i (λ g w. refl) (λ w pc a b. refl)
 imm_xori true d s imm h k l i = absurd (omega arith)
 
 imm_srli : ImmNamed 5
-unfolding first_row listing effect computed
+unfolding first_row instruction_table effect computed
 imm_srli false d s (pos n) h k l i = shift_row srli 5 0 d s n false shifted_right k l (omega arith) i (omega arith) refl (λ w. refl) (λ w pc a b. refl) (λ a. refl)
 imm_srli true d s (pos n) h k l i = shift_row srai 5 32 d s n true shifted_right_signed k l (omega arith) i (omega arith) refl (λ w. refl) (λ w pc a b. refl) (λ a. refl)
 imm_srli alt d s (negsuc n) h k l i = absurd i
 
 imm_ori : ImmNamed 6
-unfolding first_row listing effect computed
+unfolding first_row instruction_table effect computed
 imm_ori false d s imm h k l i = imm_row ori 6 d s imm k l (omega arith) i (λ g w. refl) (λ w pc a b. refl)
 imm_ori true d s imm h k l i = absurd (omega arith)
 
 imm_andi : ImmNamed 7
-unfolding first_row listing effect computed
+unfolding first_row instruction_table effect computed
 imm_andi false d s imm h k l i = imm_row andi 7 d s imm k l (omega arith) i (λ g w. refl) (λ w pc a b. refl)
 imm_andi true d s imm h k l i = absurd (omega arith)
 
@@ -183,7 +183,7 @@ imm_named op h = by_eight ImmNamed imm_addi imm_slli imm_slti imm_sltiu imm_xori
 -- ---- LOAD
 
 load_row : (name : Mnemonic) (op d s : ℕ) (imm : ℤ) → d < 32 → s < 32 → op < 8 → IsImmediate imm
-    → ((g w : ℕ) → first_row listing 0b0000011 op g w ≡ Some name)
+    → ((g w : ℕ) → first_row instruction_table 0b0000011 op g w ≡ Some name)
     → ((w pc a b : ℕ) → effect name w pc a b ≡ loads (is_signed op) (bytes_in (width_of op)) (sum a (imm_i w)))
     → IsNamed (Load op d s imm)
 load_row name op d s imm k l h i e f =
@@ -199,23 +199,23 @@ abbrev LoadNamed : ℕ → Type 0
 LoadNamed op = (d s : ℕ) (imm : ℤ) → IsTrue (is_one_of op (0 ∷ 1 ∷ 2 ∷ 4 ∷ 5 ∷ [])) → d < 32 → s < 32 → IsImmediate imm → IsNamed (Load op d s imm)
 
 load_lb : LoadNamed 0
-unfolding first_row listing effect width_of
+unfolding first_row instruction_table effect width_of
 load_lb d s imm h k l i = load_row lb 0 d s imm k l (omega arith) i (λ g w. refl) (λ w pc a b. refl)
 
 load_lh : LoadNamed 1
-unfolding first_row listing effect width_of
+unfolding first_row instruction_table effect width_of
 load_lh d s imm h k l i = load_row lh 1 d s imm k l (omega arith) i (λ g w. refl) (λ w pc a b. refl)
 
 load_lw : LoadNamed 2
-unfolding first_row listing effect width_of
+unfolding first_row instruction_table effect width_of
 load_lw d s imm h k l i = load_row lw 2 d s imm k l (omega arith) i (λ g w. refl) (λ w pc a b. refl)
 
 load_lbu : LoadNamed 4
-unfolding first_row listing effect width_of
+unfolding first_row instruction_table effect width_of
 load_lbu d s imm h k l i = load_row lbu 4 d s imm k l (omega arith) i (λ g w. refl) (λ w pc a b. refl)
 
 load_lhu : LoadNamed 5
-unfolding first_row listing effect width_of
+unfolding first_row instruction_table effect width_of
 load_lhu d s imm h k l i = load_row lhu 5 d s imm k l (omega arith) i (λ g w. refl) (λ w pc a b. refl)
 
 no_load : (op : ℕ) → is_one_of op (0 ∷ 1 ∷ 2 ∷ 4 ∷ 5 ∷ []) ≡ false → LoadNamed op
@@ -230,7 +230,7 @@ load_named op h = by_eight LoadNamed load_lb load_lh load_lw (no_load 3 refl) lo
 -- ---- STORE
 
 store_row : (name : Mnemonic) (op s t : ℕ) (imm : ℤ) → s < 32 → t < 32 → op < 8 → IsImmediate imm
-    → ((g w : ℕ) → first_row listing 0b0100011 op g w ≡ Some name)
+    → ((g w : ℕ) → first_row instruction_table 0b0100011 op g w ≡ Some name)
     → ((w pc a b : ℕ) → effect name w pc a b ≡ stores (bytes_in (width_of op)) (sum a (imm_s w)) b)
     → IsNamed (Store op s t imm)
 store_row name op s t imm k l h i e f =
@@ -246,15 +246,15 @@ abbrev StoreNamed : ℕ → Type 0
 StoreNamed op = (s t : ℕ) (imm : ℤ) → IsTrue (is_one_of op (0 ∷ 1 ∷ 2 ∷ [])) → s < 32 → t < 32 → IsImmediate imm → IsNamed (Store op s t imm)
 
 store_sb : StoreNamed 0
-unfolding first_row listing effect width_of
+unfolding first_row instruction_table effect width_of
 store_sb s t imm h k l i = store_row sb 0 s t imm k l (omega arith) i (λ g w. refl) (λ w pc a b. refl)
 
 store_sh : StoreNamed 1
-unfolding first_row listing effect width_of
+unfolding first_row instruction_table effect width_of
 store_sh s t imm h k l i = store_row sh 1 s t imm k l (omega arith) i (λ g w. refl) (λ w pc a b. refl)
 
 store_sw : StoreNamed 2
-unfolding first_row listing effect width_of
+unfolding first_row instruction_table effect width_of
 store_sw s t imm h k l i = store_row sw 2 s t imm k l (omega arith) i (λ g w. refl) (λ w pc a b. refl)
 
 no_store : (op : ℕ) → is_one_of op (0 ∷ 1 ∷ 2 ∷ []) ≡ false → StoreNamed op
@@ -269,7 +269,7 @@ store_named op h = by_eight StoreNamed store_sb store_sh store_sw (no_store 3 re
 -- ---- BRANCH
 
 branch_row : (name : Mnemonic) (op s t : ℕ) (z : ℤ) → s < 32 → t < 32 → op < 8 → IsOffset 4096 z
-    → ((g w : ℕ) → first_row listing 0b1100011 op g w ≡ Some name)
+    → ((g w : ℕ) → first_row instruction_table 0b1100011 op g w ≡ Some name)
     → ((w pc a b : ℕ) → effect name w pc a b ≡ branches (compared op a b) (sum pc (imm_b w)))
     → IsNamed (Branch op s t z)
 branch_row name op s t z k l h i e f =
@@ -288,27 +288,27 @@ abbrev BranchNamed : ℕ → Type 0
 BranchNamed op = (s t : ℕ) (z : ℤ) → IsTrue (is_one_of op (0 ∷ 1 ∷ 4 ∷ 5 ∷ 6 ∷ 7 ∷ [])) → s < 32 → t < 32 → IsOffset 4096 z → IsNamed (Branch op s t z)
 
 branch_beq : BranchNamed 0
-unfolding first_row listing effect compared
+unfolding first_row instruction_table effect compared
 branch_beq s t z h k l i = branch_row beq 0 s t z k l (omega arith) i (λ g w. refl) (λ w pc a b. refl)
 
 branch_bne : BranchNamed 1
-unfolding first_row listing effect compared
+unfolding first_row instruction_table effect compared
 branch_bne s t z h k l i = branch_row bne 1 s t z k l (omega arith) i (λ g w. refl) (λ w pc a b. refl)
 
 branch_blt : BranchNamed 4
-unfolding first_row listing effect compared
+unfolding first_row instruction_table effect compared
 branch_blt s t z h k l i = branch_row blt 4 s t z k l (omega arith) i (λ g w. refl) (λ w pc a b. refl)
 
 branch_bge : BranchNamed 5
-unfolding first_row listing effect compared
+unfolding first_row instruction_table effect compared
 branch_bge s t z h k l i = branch_row bge 5 s t z k l (omega arith) i (λ g w. refl) (λ w pc a b. refl)
 
 branch_bltu : BranchNamed 6
-unfolding first_row listing effect compared
+unfolding first_row instruction_table effect compared
 branch_bltu s t z h k l i = branch_row bltu 6 s t z k l (omega arith) i (λ g w. refl) (λ w pc a b. refl)
 
 branch_bgeu : BranchNamed 7
-unfolding first_row listing effect compared
+unfolding first_row instruction_table effect compared
 branch_bgeu s t z h k l i = branch_row bgeu 7 s t z k l (omega arith) i (λ g w. refl) (λ w pc a b. refl)
 
 no_branch : (op : ℕ) → is_one_of op (0 ∷ 1 ∷ 4 ∷ 5 ∷ 6 ∷ 7 ∷ []) ≡ false → BranchNamed op
@@ -323,7 +323,7 @@ branch_named op h = by_eight BranchNamed branch_beq branch_bne (no_branch 2 refl
 -- ---- all
 
 pub named : (i : Instr) → Fits i → IsNamed i
-unfolding mnemonic first_row listing effect
+unfolding mnemonic first_row instruction_table effect
 named (Lui d imm) h = record {
   name = lui;
   listed = found (word_of (Lui d imm)) _ _ _ (Some lui) (u_opcode imm d 0b0110111 (omega arith)) refl refl refl;

@@ -5,7 +5,7 @@ use Rattle.em_isa.specs.declared.instructions.Instr.TheVariants.{Lui, Auipc, Jal
 use Rattle.em_isa.specs.Encoding.{Fits, word_of, twos_complement, operation_kind, shift_kind}
 use Rattle.em_hart.specs.Hart.{Registers, Memory, register}
 use Rattle.em_hart.specs.Fields.{rd, rs1, rs2}
-use Rattle.em_hart.specs.Listing.{Mnemonic, mnemonic}
+use Rattle.em_hart.specs.InstructionTable.{Mnemonic, mnemonic}
 use Rattle.em_hart.specs.Effect.{Effect, branches, loads, stores, writes, jumps, jumps_by_register, sum, even}
 use Rattle.em_hart.specs.Instruction.{done, carried_out, written, named_value, value_of}
 use Rattle.em_hart.specs.Decoded.{exec_instr, effect_of, computed, compared, modulo, is_signed, width_of}

@@ -2,10 +2,8 @@
 -- RISC-V unprivileged manual, RV32I version 2.1, sections 2.2 "Base Instruction Formats" and 2.3 "Immediate Encoding
 -- Variants".
 use Rattle.std.specs.Prelude.{ℕ, ◌+◌, ◌-◌, ◌*◌, ◌/◌, ◌%◌, ◌^◌, nat_lt, if◌then◌else◌}
-
--- the bits from `high` down to `low` of a word, which the manual writes as inst[high:low]
-abbrev pub bits : ℕ → ℕ → ℕ → ℕ
-bits high low word = word / 2 ^ low % 2 ^ (high + 1 - low)
+-- `bits high low word` is what the manual writes as inst[high:low]
+pub use Rattle.em_isa.specs.Encoding.{bits}
 
 -- ---- the fields of the formats R, I, S and U (2.2)
 

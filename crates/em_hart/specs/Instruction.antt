@@ -1,12 +1,12 @@
 -- One instruction: what the word at the program counter does to the registers and the two windows.
--- RISC-V unprivileged manual, RV32I version 2.1, over the tables of Listing and Effect; the causes of faults, and their
+-- RISC-V unprivileged manual, RV32I version 2.1, over the tables of InstructionTable and Effect; the causes of faults, and their
 -- order, are this project's own.
 use Rattle.std.specs.Prelude.{ℕ, ◌*◌, ◌/◌, ◌%◌, Bool, not, ◌&&◌, ◌==◌, nat_lt, List, length, slice_index, if◌then◌else◌, Option, Some, None}
 use Rattle.em_hart.specs.declared.answers.Class.{Class}
 use Rattle.em_hart.specs.declared.answers.Class.TheVariants.{Plain, Memory as MemoryClass}
 use Rattle.em_hart.specs.Hart.{Registers, Memory, register, with_register, with_pc, has_bytes, loaded, stored}
 use Rattle.em_hart.specs.Fields.{rd, rs1, rs2, sign_extended}
-use Rattle.em_hart.specs.Listing.{Mnemonic, mnemonic}
+use Rattle.em_hart.specs.InstructionTable.{Mnemonic, mnemonic}
 use Rattle.em_hart.specs.Effect.{Effect, writes, jumps, jumps_by_register, branches, loads, stores, passes, calls, breaks, effect, sum}
 
 -- what one instruction comes to

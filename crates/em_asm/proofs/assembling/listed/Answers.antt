@@ -3,7 +3,7 @@ use Rattle.em_base.specs.Images.{most_words}
 use Rattle.em_asm.specs.Code.{size_of}
 use Rattle.em_asm.specs.Image.{code_size, label_at, labels_of, line_at, shared_word, shared_words, wait_at, waits_of}
 use Rattle.em_asm.proofs.Gathered.{all-taken, gather-next, gather-nil, line-here, shared-next, size-next}
-use Rattle.em_asm.proofs.Listing.{whole-image}
+use Rattle.em_asm.proofs.Whole.{whole-image}
 use Rattle.em_asm.proofs.assembling.listed.Goals as goal
 
 pub loop-place-init : goal.loop-place-init

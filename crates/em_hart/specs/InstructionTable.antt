@@ -101,8 +101,8 @@ abbrev MISC_MEM : ℕ
 MISC_MEM = 0b0001111
 
 -- the table; each MISC-MEM word with funct3 000 is a fence, whatever its other fields (2.7)
-unfoldable pub listing : List Row
-listing =
+unfoldable pub instruction_table : List Row
+instruction_table =
     row (by_opcode LUI) lui
     ∷ row (by_opcode AUIPC) auipc
     ∷ row (by_opcode JAL) jal
@@ -152,4 +152,4 @@ first_row (r ∷ rows) op f3 f7 word = if is_of r.pattern op f3 f7 word then Som
 
 -- the instruction that a word is; every other word is no instruction of RV32I
 unfoldable pub mnemonic : ℕ → Option Mnemonic
-mnemonic word = first_row listing (opcode word) (funct3 word) (funct7 word) word
+mnemonic word = first_row instruction_table (opcode word) (funct3 word) (funct7 word) word
