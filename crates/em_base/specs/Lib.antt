@@ -1,2 +1,4 @@
 pub mod Number
 pub mod Images
+pub mod Tables
+pub mod Events

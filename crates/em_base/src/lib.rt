@@ -1,7 +1,10 @@
 //! What every crate of the kernel stands on: lists and texts that contracts see as lists, the names of tasks and ports,
-//! refusals, the image of a program, the lines of a text and the numbers in it.
+//! refusals, the task table, the image of a program, events from outside, the application that these make, the lines of a
+//! text and the numbers in it.
 #![tactic(auto)]
 
+pub mod apps;
+pub mod events;
 pub mod ids;
 pub mod images;
 pub mod lines;
@@ -9,10 +12,13 @@ pub mod list;
 pub mod memory;
 pub mod numbers;
 pub mod refusals;
+pub mod tables;
 #[cfg(test)]
 mod tests;
 pub mod text;
 
+pub use apps::{App, HintMap};
+pub use events::{Event, Schedule, Timed};
 pub use ids::{MsgId, PortId, SemId, TaskId};
 pub use images::{Image, Wait};
 pub use lines::lines_of;
@@ -20,4 +26,5 @@ pub use list::Items;
 pub use memory::NoMemory;
 pub use numbers::read_number;
 pub use refusals::{Fail, Refusal};
+pub use tables::{Kind, MsgRow, Table, TaskRow};
 pub use text::Name;
