@@ -1,0 +1,12 @@
+pub mod Entries
+pub mod Firsts
+pub mod Folds
+pub mod Groups
+pub mod Lines
+pub mod MessagesFit
+pub mod Passed
+pub mod Rows
+pub mod RowsFit
+pub mod Scans
+pub mod TablesFit
+pub mod Wholes

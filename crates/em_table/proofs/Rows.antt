@@ -1,0 +1,19 @@
+-- Rows of a table that are the same key by key.
+use Rattle.std.proofs.Common.{◌≡◌, ℕ, List, [], ◌∷◌, map, Option, refl, ap}
+use Rattle.em_base.specs.declared.ids.SemId.{SemId}
+use Rattle.em_base.specs.declared.tables.Kind.{Kind}
+use Rattle.em_base.specs.declared.tables.TaskRow.{TaskRow}
+
+-- semaphores by their numbers
+pub ids : (semaphores : List SemId) → map (λ s. record { 0 = s }) (map (λ s. s.0) semaphores) ≡ semaphores
+ids [] = refl
+ids (semaphore ∷ semaphores) = ap (λ rest. semaphore ∷ rest) (ids semaphores)
+
+pub same_row : {name entry name' entry' : List ℕ} {kind kind' : Kind} {period deadline cost line band period' deadline' cost' line' band' : Option ℕ}
+    {phase section writes phase' section' writes' : ℕ} {uses uses' : List SemId}
+    → name ≡ name' → entry ≡ entry' → kind ≡ kind' → period ≡ period' → phase ≡ phase' → deadline ≡ deadline' → cost ≡ cost'
+    → section ≡ section' → writes ≡ writes' → uses ≡ uses' → line ≡ line' → band ≡ band'
+    → ◌≡◌ {A = TaskRow}
+    (record { name = name; entry = entry; kind = kind; period = period; phase = phase; deadline = deadline; cost = cost; section = section; writes = writes; uses = uses; line = line; band = band })
+    (record { name = name'; entry = entry'; kind = kind'; period = period'; phase = phase'; deadline = deadline'; cost = cost'; section = section'; writes = writes'; uses = uses'; line = line'; band = band' })
+same_row a b c d e f g h i j k l = rw (a, b, c, d, e, f, g, h, i, j, k, l) refl
