@@ -1,0 +1,6 @@
+pub mod Wording
+pub mod Decimals
+pub mod Ordered
+pub mod Possible
+pub mod Clear
+pub mod Complete
