@@ -1,0 +1,9 @@
+pub mod Answered
+pub mod Heads
+pub mod Keeping
+pub mod Lists
+pub mod Numbered
+pub mod Reading
+pub mod Silent
+pub mod Spared
+pub mod Unique

@@ -1,0 +1,80 @@
+-- The parts of a bundle: its header lines, and the lines between them. This project's own.
+use Rattle.std.specs.Prelude.{◌≡◌, ℕ, ◌+◌, ◌<◌, ◌≤◌, ◌⊎◌, Bool, true, false, nat_eq, List, [], ◌∷◌, ◌++◌, length, take, slice_index, slice_index_or, filter, codes}
+use Rattle.std.specs.List.{after_first, before_first, flat_map, position_or_len}
+use Rattle.std.specs.Str.{bytes_eq}
+use Rattle.em_base.specs.declared.refusals.Refusal.{Refusal}
+
+-- whether a line is a header line: it begins with `%`
+abbrev pub is_header : List ℕ → Bool
+is_header line = nat_eq (slice_index line 0) 37
+
+-- the line at a place, counted from 0
+abbrev pub line_at : List (List ℕ) → ℕ → List ℕ
+line_at lines place = slice_index_or lines place []
+
+-- the headers that are due, in order
+abbrev pub headers : List (List ℕ)
+headers = codes "%table" ∷ codes "%code" ∷ codes "%script" ∷ []
+
+-- the header lines among lines, in order
+abbrev pub headers_in : List (List ℕ) → List (List ℕ)
+headers_in lines = filter is_header lines
+
+-- the header lines so far are the first that are due
+abbrev pub AreFirst : List (List ℕ) → ℕ → Type 0
+AreFirst lines count = (count ≤ length headers) × (headers_in lines ≡ take count headers)
+
+-- ---- where the parts are in order
+
+-- the first line is a header line, and the header lines are those that are due
+pub record IsCut (lines : List (List ℕ)) : Type 0 where
+  pub headed : is_header (line_at lines 0) ≡ true
+  pub due : headers_in lines ≡ headers
+
+-- the part of a header: the lines after its header line, up to the next header line or the end
+abbrev pub part_of : List ℕ → List (List ℕ) → List (List ℕ)
+part_of header lines = before_first is_header (after_first (bytes_eq header) lines)
+
+-- the number of the header line, counted from 1, and that of the first line of its part
+abbrev pub header_number : List ℕ → List (List ℕ) → ℕ
+header_number header lines = position_or_len (bytes_eq header) lines + 1
+
+abbrev pub first_number : List ℕ → List (List ℕ) → ℕ
+first_number header lines = header_number header lines + 1
+
+-- lines as a text: each of them followed by a line feed
+abbrev pub text_of : List (List ℕ) → List ℕ
+text_of lines = flat_map (λ line. line ++ 10 ∷ []) lines
+
+-- ---- where they aren't
+
+-- the first line is no header line, or there is none
+pub record IsHeadless (lines : List (List ℕ)) (refusal : Refusal) : Type 0 where
+  pub headless : is_header (line_at lines 0) ≡ false
+  pub code : refusal.code ≡ 40
+  pub line : refusal.line ≡ 1
+
+-- a header line isn't the next one due, and it is the first such line
+pub record IsMisplaced (lines : List (List ℕ)) (refusal : Refusal) : Type 0 where
+  pub headed : is_header (line_at lines 0) ≡ true
+  pub place : ℕ
+  pub count : ℕ
+  pub within : place < length lines
+  pub header : is_header (line_at lines place) ≡ true
+  pub before : AreFirst (take place lines) count
+  pub other : bytes_eq (line_at lines place) (slice_index_or headers count []) ≡ false
+  pub code : refusal.code ≡ 41
+  pub line : refusal.line ≡ place + 1
+
+-- headers are due at the end
+pub record IsShort (lines : List (List ℕ)) (refusal : Refusal) : Type 0 where
+  pub headed : is_header (line_at lines 0) ≡ true
+  pub count : ℕ
+  pub before : AreFirst lines count
+  pub due : count < length headers
+  pub code : refusal.code ≡ 40
+  pub line : refusal.line ≡ length lines + 1
+
+-- the refusal of lines whose parts aren't in order
+abbrev pub IsUncut : List (List ℕ) → Refusal → Type 0
+IsUncut lines refusal = IsHeadless lines refusal ⊎ (IsMisplaced lines refusal ⊎ IsShort lines refusal)

@@ -1,0 +1,17 @@
+//! Laws of bundles.
+ghost use Rattle.std.specs.Prelude.{◌≡◌, ℕ, List};
+ghost use Rattle.em_base.specs.declared.apps.App.{App};
+ghost use Rattle.em_base.specs.declared.refusals.Refusal.{Refusal};
+ghost use Rattle.em_bundle.specs.Application.{IsApplication, IsRefused};
+
+use em_asm::one_image;
+use em_asm_read::one_meaning;
+
+/// Bytes stand for one application, or are refused, and never both.
+pub fn one_application()
+    ensures app { (bytes : List ℕ) (one other : App) → IsApplication bytes one → IsApplication bytes other → one ≡ other }
+    ensures either { (bytes : List ℕ) (app : App) (refusal : Refusal) → IsApplication bytes app → IsRefused bytes refusal → ⊥ }
+{
+    one_meaning();
+    one_image();
+}
