@@ -23,7 +23,10 @@ AS = "riscv64-unknown-elf-as"
 OBJCOPY = "riscv64-unknown-elf-objcopy"
 OBJDUMP = "riscv64-unknown-elf-objdump"
 
-# An input has at most 16,384 code words, and `li` and `waitjob` come to two.
+# The table of the bundles whose code is listed.
+TABLE = "%table\nhorizon = 1\n[[task]]\nname = 'a'\nentry = 'main'\nkind = 'background'\n"
+
+# A bundle has at most 16,384 code words, and `li` and `waitjob` come to two.
 CHUNK = 4000
 
 NAMES = (
@@ -90,7 +93,8 @@ def statement():
     if kind == "alone":
         return same(random.choice(ALONE))
     if kind == "waitjob":
-        return random.choice(["waitjob", "waitjob %d" % random.randint(0, 31)]), "addi a7, zero, 1\necall"
+        # Its operand, a semaphore, is no part of the words, and isn't read yet.
+        return "waitjob", "addi a7, zero, 1\necall"
     word = random.randint(0, 2**32 - 1)
     return ".code 0x%08x" % word, ".word 0x%08x" % word
 
@@ -135,7 +139,8 @@ def assembled(folder, lines):
 
 def listed(program, lines):
     """The lines of our listing: the address, the word and the text of each."""
-    text = run([program, "list"], input=("%code\n" + "\n".join(lines) + "\n").encode()).decode()
+    bundle = TABLE + "%code\nmain:\n" + "\n".join(lines) + "\n%script\n"
+    text = run([program, "list"], input=bundle.encode()).decode()
     rows = [re.fullmatch(r"([0-9a-f]{8}): ([0-9a-f]{8}) (.*)", line) for line in text.splitlines()]
     return [(int(row[1], 16), int(row[2], 16), row[3]) for row in rows]
 

@@ -470,16 +470,34 @@ fn applications(rt: HostRuntime) -> Result<(), Fail> {
         let app = loaded(&rt, alloc, shows, text.as_bytes())?;
         assert_eq!(rt; described(alloc, &app)?.as_str(), want, "{shows}");
     }
+    Ok(())
+}
+
+#[test]
+fn changes_that_fit(rt: HostRuntime) -> Result<(), Fail> {
+    let alloc = rt.alloc();
     for (shows, first, second) in FITS {
         let text = changed(alloc, first, second)?;
         loaded(&rt, alloc, shows, text.as_bytes())?;
     }
+    Ok(())
+}
+
+/// The events of the bundle with the last interrupt line and a script, a line for each.
+fn read_events(rt: &impl Abort, alloc: Global, shows: &str, script: &str) -> Result<String, Fail> {
+    let input = format!(in alloc; "{LINED}{script}")?;
+    let app = loaded(rt, alloc, shows, input.as_bytes())?;
+    let mut text = String::new(alloc);
+    events(&mut text, app.script.as_slice())?;
+    Ok(text)
+}
+
+#[test]
+fn scripts_that_fit(rt: HostRuntime) -> Result<(), Fail> {
+    let alloc = rt.alloc();
     for (shows, script, want) in EVENTS {
-        let input = format!(in alloc; "{LINED}{script}")?;
-        let app = loaded(&rt, alloc, shows, input.as_bytes())?;
-        let mut text = String::new(alloc);
-        events(&mut text, app.script.as_slice())?;
-        assert_eq!(rt; text.as_str(), want, "{shows}");
+        let found = read_events(&rt, alloc, shows, script)?;
+        assert_eq!(rt; found.as_str(), want, "{shows}");
     }
     Ok(())
 }

@@ -1,6 +1,6 @@
 //! Assembly through the whole program: what statements do, and which line is refused first.
 
-use crate::calls::{ROOM, called, source};
+use crate::calls::{ROOM, called, running, source};
 use em_io::MemSink;
 use em_run::Status;
 use std::alloc::{AllocError, Global};
@@ -15,7 +15,7 @@ fn expect(
     status: Status,
     output: &str,
 ) -> Result<(), Fail> {
-    let input = format!(in alloc; "%code\n{code}")?;
+    let input = running(alloc, code)?;
     let mut src = source(alloc, input.as_bytes(), &[], 65_536)?;
     let mut out = MemSink::new(alloc, ROOM, Vec::new(alloc), 4096)?;
     assert_eq!(rt;
@@ -97,7 +97,7 @@ const PROGRAMS: [(&str, &str, &str); 8] = [
     ),
     (
         "waitjob is two words: it calls with the number 1",
-        "waitjob\nwaitjob 3\nebreak\n",
+        "waitjob\nwaitjob\nebreak\n",
         "err 0 1 -1\nerr 0 1 -1\nfault 0 6 16 -\n",
     ),
 ];
@@ -112,26 +112,27 @@ fn programs(rt: HostRuntime) -> Result<(), Fail> {
     Ok(())
 }
 
-/// Code that is refused: the lines, the code and the line. The header is line 1.
-const REFUSED: [(&str, u16, u32); 18] = [
-    ("nop\nfoo\nadd x1\n", 1, 3),
-    ("lw a0 0(a1)\nfoo\n", 2, 2),
-    ("add a0, a1, q\n", 3, 2),
-    ("\nli a0, 4294967296\nfoo\n", 4, 3),
-    ("beq t0, zero, 3\n", 4, 2),
-    ("nop\na: .word 1\n", 5, 3),
-    ("a: nop\na: nop\n", 6, 3),
-    ("nop\nbeq a0, zero, nowhere\n", 7, 3),
-    ("j nowhere\nfoo\n", 1, 3),
-    ("a: j nowhere\na: nop\n", 6, 3),
-    ("a: j nowhere\na: foo\n", 1, 3),
-    ("j one\nj two\none:\n", 7, 3),
-    ("a:\na:\na:\n", 6, 3),
-    ("a: j A\n", 7, 2),
-    ("# one\n\n\tj 9\n", 4, 4),
-    ("waitjob 4294967296\n", 4, 2),
-    ("li a0, 170141183460469231731687303715884105728\n", 4, 2),
-    ("\u{a0}\n", 1, 2),
+/// Code that is refused: the lines, of which the first is line 12, the code and the line.
+const REFUSED: [(&str, u16, u32); 19] = [
+    ("nop\nfoo\nadd x1\n", 1, 13),
+    ("lw a0 0(a1)\nfoo\n", 2, 12),
+    ("add a0, a1, q\n", 3, 12),
+    ("\nli a0, 4294967296\nfoo\n", 4, 13),
+    ("beq t0, zero, 3\n", 4, 12),
+    ("nop\na: .word 1\n", 5, 13),
+    ("a: nop\na: nop\n", 6, 13),
+    ("nop\nbeq a0, zero, nowhere\n", 7, 13),
+    ("j nowhere\nfoo\n", 1, 13),
+    ("a: j nowhere\na: nop\n", 6, 13),
+    ("a: j nowhere\na: foo\n", 1, 13),
+    ("j one\nj two\none:\n", 7, 13),
+    ("a:\na:\na:\n", 6, 13),
+    ("a: j A\n", 7, 12),
+    ("# one\n\n\tj 9\n", 4, 14),
+    ("waitjob 4294967296\n", 4, 12),
+    ("li a0, 170141183460469231731687303715884105728\n", 4, 12),
+    ("\u{a0}\n", 1, 12),
+    ("nop\nwaitjob # 1\nwaitjob 3\nwaitjob 4\n", 60, 14),
 ];
 
 #[test]
@@ -166,7 +167,7 @@ fn the_reach_of_branches(rt: HostRuntime) -> Result<(), Fail> {
         alloc,
         far.as_str(),
         Status::Malformed,
-        "error 8 line 2\n",
+        "error 8 line 12\n",
     )?;
 
     // Backwards 4,096 bytes are in reach, and 4,100 are not.
@@ -180,7 +181,7 @@ fn the_reach_of_branches(rt: HostRuntime) -> Result<(), Fail> {
         alloc,
         past.as_str(),
         Status::Malformed,
-        "error 8 line 1028\n",
+        "error 8 line 1038\n",
     )
 }
 
@@ -196,7 +197,7 @@ fn the_most_words(rt: HostRuntime) -> Result<(), Fail> {
         alloc,
         past.as_str(),
         Status::Malformed,
-        "error 9 line 16389\n",
+        "error 9 line 16399\n",
     )?;
 
     // A statement of two words that passes the limit by one.
@@ -207,7 +208,7 @@ fn the_most_words(rt: HostRuntime) -> Result<(), Fail> {
         alloc,
         across.as_str(),
         Status::Malformed,
-        "error 9 line 16385\n",
+        "error 9 line 16395\n",
     )?;
 
     let shared = repeated(alloc, ".word 1\n", 16_384)?;
@@ -219,6 +220,6 @@ fn the_most_words(rt: HostRuntime) -> Result<(), Fail> {
         alloc,
         past.as_str(),
         Status::Malformed,
-        "error 10 line 16386\n",
+        "error 10 line 16396\n",
     )
 }

@@ -1,21 +1,18 @@
 //! Sources and sinks that hand over pieces and fail, inputs that are too long, and what was written by then.
 
-use crate::calls::{ROOM, called, source};
+use crate::calls::{ONE_SHOT, ROOM, called, source};
 use em_io::MemSink;
 use em_run::Status;
 use std::test::Fail;
 
-/// One word put to a port.
-const INPUT: &[u8] = b"%code\nli a7, 4\nli a0, 0\nli a1, 7\necall\nli a7, 8\necall\n";
-
-/// What it comes to.
+/// What the run of the bundle writes.
 const OUTPUT: &[u8] = b"%trace\nrel 0 1 0 0\nout 0 0 7 7\nexit 0\n";
 
 #[test]
 fn pieces_of_any_size(rt: HostRuntime) -> Result<(), Fail> {
     let alloc = rt.alloc();
     for piece in [1usize, 7, 4096] {
-        let mut src = source(alloc, INPUT, &[], piece)?;
+        let mut src = source(alloc, ONE_SHOT.as_bytes(), &[], piece)?;
         let mut out = MemSink::new(alloc, ROOM, Vec::new(alloc), piece)?;
         assert_eq!(rt;
             called(alloc, "run", &mut src, &mut out)?,
@@ -31,7 +28,7 @@ fn pieces_of_any_size(rt: HostRuntime) -> Result<(), Fail> {
 fn each_failing_read(rt: HostRuntime) -> Result<(), Fail> {
     let alloc = rt.alloc();
     for call in 1..6u64 {
-        let mut src = source(alloc, INPUT, &[call], 10)?;
+        let mut src = source(alloc, ONE_SHOT.as_bytes(), &[call], 10)?;
         let mut out = MemSink::new(alloc, ROOM, Vec::new(alloc), 4096)?;
         assert_eq!(rt;
             called(alloc, "run", &mut src, &mut out)?,
@@ -81,7 +78,7 @@ fn failing_calls(rt: HostRuntime) -> Result<(), Fail> {
             Status::WriteFault,
         ),
     ] {
-        let mut src = source(alloc, INPUT, read_fails, 4096)?;
+        let mut src = source(alloc, ONE_SHOT.as_bytes(), read_fails, 4096)?;
         let mut out = MemSink::new(alloc, ROOM, Vec::from_slice(alloc, write_fails)?, piece)?;
         assert_eq!(rt;
             called(alloc, "run", &mut src, &mut out)?,
@@ -96,7 +93,7 @@ fn failing_calls(rt: HostRuntime) -> Result<(), Fail> {
 #[test]
 fn no_words_read_nothing(rt: HostRuntime) -> Result<(), Fail> {
     let alloc = rt.alloc();
-    let mut src = source(alloc, INPUT, &[1], 4096)?;
+    let mut src = source(alloc, ONE_SHOT.as_bytes(), &[1], 4096)?;
     let mut out = MemSink::new(alloc, ROOM, Vec::new(alloc), 4096)?;
     assert_eq!(rt; called(alloc, "", &mut src, &mut out)?, Status::Usage);
     assert_eq!(rt; out.written(), b"error usage\n".as_slice());
@@ -110,7 +107,7 @@ fn one_byte_too_many(rt: HostRuntime) -> Result<(), Fail> {
     for (length, text, status) in [
         (
             16_777_216usize,
-            b"error 60 line 1\n".as_slice(),
+            b"error 40 line 1\n".as_slice(),
             Status::Malformed,
         ),
         (16_777_217, b"error too long\n".as_slice(), Status::TooLong),

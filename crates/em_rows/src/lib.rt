@@ -11,3 +11,5 @@ mod faults;
 mod listings;
 #[cfg(test)]
 mod rows;
+#[cfg(test)]
+mod windows;

@@ -1,167 +1,323 @@
 //! What each input comes to.
 
-use crate::calls::{ROOM, called, source};
+use crate::calls::{ONE_SHOT, ROOM, called, running, source};
 use em_base::{PortId, SemId, TaskId};
 use em_io::MemSink;
 use em_run::{Line, Status, print_trace};
+use std::alloc::Global;
+use std::fmt::Write;
+use std::process::Abort;
 use std::test::Fail;
 
-/// What a row shows, the words, the input, the output and the status.
-const INPUTS: [(&str, &str, &[u8], &str, Status); 21] = [
+/// The words, and what is written for the good bundle.
+const WORDS: [(&str, &str, Status); 27] = [
+    ("run", SHOT, Status::Done),
+    ("-- run", SHOT, Status::Done),
+    ("run --", SHOT, Status::Done),
+    ("list", LISTED, Status::Done),
+    ("-- list", LISTED, Status::Done),
+    ("", USAGE, Status::Usage),
+    ("run --number 3", USAGE, Status::Usage),
+    ("list --number 3", USAGE, Status::Usage),
+    ("--number 3 run", USAGE, Status::Usage),
+    ("run --number=3", USAGE, Status::Usage),
+    ("run --number=", USAGE, Status::Usage),
+    ("--number", USAGE, Status::Usage),
+    ("--number run", USAGE, Status::Usage),
+    ("run --number", USAGE, Status::Usage),
+    ("run --number 3 --number 4", USAGE, Status::Usage),
+    ("frob", USAGE, Status::Usage),
+    ("Run", USAGE, Status::Usage),
+    ("run list", USAGE, Status::Usage),
+    ("run run", USAGE, Status::Usage),
+    ("list list", USAGE, Status::Usage),
+    ("run -", USAGE, Status::Usage),
+    ("run -- --number", USAGE, Status::Usage),
+    ("help", USAGE, Status::Usage),
+    ("--help", USAGE, Status::Usage),
+    ("-h", USAGE, Status::Usage),
+    ("--version", USAGE, Status::Usage),
+    ("bench --number 7", USAGE, Status::Usage),
+];
+
+/// The line for words that aren't accepted.
+const USAGE: &str = "error usage\n";
+
+/// What the run of the good bundle writes.
+const SHOT: &str = "%trace\nrel 0 1 0 0\nout 0 0 7 7\nexit 0\n";
+
+/// The listing of the good bundle.
+const LISTED: &str =
+    "00000000: 00400893 addi x17, x0, 4\n00000004: 00000513 addi x10, x0, 0\n00000008: 00700593 addi x11, x0, 7\n0000000c: 00000073 ecall\n00000010: 00800893 addi x17, x0, 8\n00000014: 00000073 ecall\n";
+
+#[test]
+fn words(rt: HostRuntime) -> Result<(), Fail> {
+    let alloc = rt.alloc();
+    for (words, output, status) in WORDS {
+        let mut src = source(alloc, ONE_SHOT.as_bytes(), &[], 4096)?;
+        let mut out = MemSink::new(alloc, ROOM, Vec::new(alloc), 4096)?;
+        let found = called(alloc, words, &mut src, &mut out)?;
+        assert_eq!(rt; found, status, "{words}");
+        assert_eq!(rt; out.written(), output.as_bytes(), "{words}");
+    }
+    Ok(())
+}
+
+/// The run of the input ends with the status and writes the output.
+fn expect(
+    rt: &impl Abort,
+    alloc: Global,
+    shows: &str,
+    input: &[u8],
+    output: &str,
+    status: Status,
+) -> Result<(), Fail> {
+    let mut src = source(alloc, input, &[], 4096)?;
+    let mut out = MemSink::new(alloc, ROOM, Vec::new(alloc), 4096)?;
+    let found = called(alloc, "run", &mut src, &mut out)?;
+    assert_eq!(rt; found, status, "{shows}");
+    assert_eq!(rt; out.written(), output.as_bytes(), "{shows}");
+    Ok(())
+}
+
+/// What a row shows, the input, and the line that is written.
+const INPUTS: [(&str, &[u8], &str); 10] = [
+    ("an empty input", b"", "error 40 line 1\n"),
     (
-        "one word put to a port",
-        "run",
-        b"%code\nli a7, 4\nli a0, 0\nli a1, 7\necall\nli a7, 8\necall\n",
-        "%trace\nrel 0 1 0 0\nout 0 0 7 7\nexit 0\n",
-        Status::Done,
+        "code alone",
+        b"%code\nli a7, 8\necall\n",
+        "error 41 line 1\n",
+    ),
+    ("another first line", b"x", "error 40 line 1\n"),
+    (
+        "empty parts",
+        b"%table\n%code\n%script\n",
+        "error 21 line 1\n",
     ),
     (
-        "no code: the pc is outside it",
-        "run",
-        b"%code\n",
-        "%trace\nrel 0 1 0 0\nfault 0 2 0 -\n",
-        Status::Done,
+        "a header, and a blank behind it",
+        b"%table \n%code\n%script\n",
+        "error 41 line 1\n",
+    ),
+    ("a table alone", b"%table\n", "error 40 line 2\n"),
+    (
+        "a table alone, without its line end",
+        b"%table",
+        "error 40 line 2\n",
     ),
     (
-        "a shared word, and an access that is not aligned",
-        "run",
-        b"%code\nli t0, 0x20000000\nlw a1, 0(t0)\nli a7, 4\nli a0, 3\necall\nlw a1, 2(t0)\n.word 9\n",
-        "%trace\nrel 0 1 0 0\nout 0 3 9 9\nfault 0 4 20 -\n",
-        Status::Done,
+        "parts out of order",
+        b"%table\n\n%script\n%code\n",
+        "error 41 line 3\n",
     ),
     (
-        "a loop that only the limit of steps ends",
-        "run",
-        b"%code\nj 0\n",
-        "%trace\nrel 0 1 0 0\n",
-        Status::Done,
+        "a part that comes later, before its time",
+        b"%table\n%code\n%script\n%schedule\n0 end\n",
+        "error 41 line 4\n",
     ),
     (
-        "a label that stands twice",
-        "run",
-        b"%code\na: nop\na: nop\n",
-        "error 6 line 3\n",
-        Status::Malformed,
-    ),
-    (
-        "another first line",
-        "run",
-        b"x\n",
-        "error 60 line 1\n",
-        Status::Malformed,
-    ),
-    (
-        "an empty input",
-        "run",
-        b"",
-        "error 60 line 1\n",
-        Status::Malformed,
-    ),
-    (
-        "a comment behind the header",
-        "run",
-        b"%code # x\nnop\n",
-        "error 60 line 1\n",
-        Status::Malformed,
-    ),
-    (
-        "another header, before a line that is refused and one that is not UTF-8",
-        "run",
-        b"%code\nfoo\n%script\n%\n",
-        "error 60 line 3\n",
-        Status::Malformed,
-    ),
-    (
-        "a percent sign inside a line is no header",
-        "run",
-        b"%code\n %\n",
-        "error 1 line 2\n",
-        Status::Malformed,
-    ),
-    ("no words", "", b"%code\n", "error usage\n", Status::Usage),
-    (
-        "two words",
-        "run run",
-        b"%code\n",
-        "error usage\n",
-        Status::Usage,
-    ),
-    (
-        "the words of two commands",
-        "run list",
-        b"%code\n",
-        "error usage\n",
-        Status::Usage,
-    ),
-    (
-        "a word of a command twice",
-        "list list",
-        b"%code\n",
-        "error usage\n",
-        Status::Usage,
-    ),
-    (
-        "another word",
-        "Run",
-        b"%code\n",
-        "error usage\n",
-        Status::Usage,
-    ),
-    (
-        "CR before LF, and a last line without LF",
-        "run",
-        b"%code\r\nli a7, 8\r\necall",
-        "%trace\nrel 0 1 0 0\nexit 0\n",
-        Status::Done,
-    ),
-    (
-        "a CR at the end of a last line without LF stays",
-        "run",
-        b"%code\nli a7, 8\necall\r",
-        "error 1 line 3\n",
-        Status::Malformed,
-    ),
-    (
-        "two CRs before LF: one stays",
-        "run",
-        b"%code\nli a7, 8\r\r\necall\n",
-        "error 4 line 2\n",
-        Status::Malformed,
-    ),
-    (
-        "a line that is not UTF-8",
-        "run",
-        b"%code\nli a7, 8\n\xff\n\n",
-        "error 43 line 3\n",
-        Status::Malformed,
-    ),
-    (
-        "a line that is not UTF-8 behind one that is refused, and no header",
-        "run",
+        "a byte that is no UTF-8, in a text that is no bundle either",
         b"\n\nfoo\n\xc3\x28\n",
         "error 43 line 4\n",
-        Status::Malformed,
-    ),
-    (
-        "a comment that is no ASCII, and a label that is none",
-        "run",
-        b"%code\nnop # \xc3\xa9\n\xc3\xa9: nop\n",
-        "error 5 line 3\n",
-        Status::Malformed,
     ),
 ];
 
 #[test]
-fn words_and_inputs(rt: HostRuntime) -> Result<(), Fail> {
-    let alloc = rt.alloc();
-    for (shows, words, input, output, status) in INPUTS {
-        let mut src = source(alloc, input, &[], 4096)?;
-        let mut out = MemSink::new(alloc, ROOM, Vec::new(alloc), 4096)?;
-        let found = called(alloc, words, &mut src, &mut out)?;
-        assert_eq!(rt; found, status, "{shows}");
-        assert_eq!(rt; out.written(), output.as_bytes(), "{shows}");
+fn inputs(rt: HostRuntime) -> Result<(), Fail> {
+    for (shows, input, output) in INPUTS {
+        expect(&rt, rt.alloc(), shows, input, output, Status::Malformed)?;
     }
     Ok(())
+}
+
+/// What a row shows, the number of a line of the good bundle, what stands in its place, and the line that is written.
+const REFUSED: [(&str, usize, &str, &str); 25] = [
+    ("an unknown statement", 11, "a: foo", "error 1 line 11\n"),
+    (
+        "a number past the greatest",
+        12,
+        "li a0, 4294967296",
+        "error 4 line 12\n",
+    ),
+    (
+        "a label that isn't there",
+        12,
+        "beq a0, zero, nowhere",
+        "error 7 line 12\n",
+    ),
+    (
+        "an entry that is no label",
+        5,
+        "entry = \"b\"",
+        "error 42 line 10\n",
+    ),
+    (
+        "an interrupt line of no task",
+        17,
+        "%script\n5 line 0 1",
+        "error 32 line 18\n",
+    ),
+    (
+        "a time that falls",
+        17,
+        "%script\n5 unplug 0\n4 unplug 0",
+        "error 31 line 19\n",
+    ),
+    (
+        "a part that comes later",
+        17,
+        "%script\n%schedule",
+        "error 41 line 18\n",
+    ),
+    ("a period that is missing", 7, "", "error 21 line 1\n"),
+    ("no TOML", 2, "horizon =", "error 20 line 1\n"),
+    (
+        "a text as the horizon",
+        2,
+        "horizon = \"9\"",
+        "error 22 line 1\n",
+    ),
+    ("no time", 2, "horizon = 0", "error 23 line 1\n"),
+    (
+        "an unknown key",
+        9,
+        "cost = 900\nspan = 1",
+        "error 24 line 1\n",
+    ),
+    (
+        "two tasks of one name",
+        9,
+        "cost = 900\n[[task]]\nname = \"a\"\nentry = \"a\"\nkind = \"background\"",
+        "error 25 line 1\n",
+    ),
+    (
+        "a background task as a writer",
+        9,
+        "cost = 900\n[[task]]\nname = \"b\"\nentry = \"a\"\nkind = \"background\"\n[[message]]\nwords = 1\nwriter = \"b\"\nreaders = []",
+        "error 26 line 1\n",
+    ),
+    (
+        "releases past the most",
+        2,
+        "horizon = 20000000\n[[task]]\nname = \"b\"\nentry = \"a\"\nkind = \"timer\"\nperiod = 100\ndeadline = 1\ncost = 1",
+        "error 27 line 1\n",
+    ),
+    (
+        "a message, which isn't read yet",
+        9,
+        "cost = 900\n[[message]]\nwords = 1\nwriter = \"a\"\nreaders = []",
+        "error 60 line 1\n",
+    ),
+    (
+        "a hint, which isn't read yet",
+        12,
+        "waitjob\nwaitjob 0",
+        "error 60 line 13\n",
+    ),
+    (
+        "two tasks, which aren't run yet",
+        9,
+        "cost = 900\n[[task]]\nname = \"b\"\nentry = \"a\"\nkind = \"background\"",
+        "error 60 line 1\n",
+    ),
+    (
+        "a task with an interrupt line, which isn't run yet",
+        6,
+        "kind = \"line\"\nline = 0",
+        "error 60 line 1\n",
+    ),
+    (
+        "a phase, which isn't run yet",
+        9,
+        "cost = 900\nphase = 1",
+        "error 60 line 1\n",
+    ),
+    (
+        "an event, which isn't run yet",
+        17,
+        "%script\n\n9999 unplug 0",
+        "error 60 line 1\n",
+    ),
+    (
+        "an event with a form that is none",
+        17,
+        "%script\n9999 unplug",
+        "error 30 line 18\n",
+    ),
+    (
+        "a percent sign behind a blank is no header",
+        11,
+        "a: li a7, 4\n %script",
+        "error 1 line 12\n",
+    ),
+    (
+        "two CRs before LF: one stays",
+        12,
+        "li a0, 0\r\r",
+        "error 4 line 12\n",
+    ),
+    (
+        "a comment that is no ASCII, and a label that is none",
+        12,
+        "nop # \u{e9}\n\u{e9}: nop",
+        "error 5 line 13\n",
+    ),
+];
+
+/// The good bundle with another text in the place of a line.
+fn changed(alloc: Global, number: usize, text: &str) -> Result<String, Fail> {
+    let mut found = String::new(alloc);
+    for (place, line) in (1..99usize).zip(ONE_SHOT.lines()) {
+        let put = if place == number { text } else { line };
+        writeln!(found, "{put}")?;
+    }
+    Ok(found)
+}
+
+#[test]
+fn refused(rt: HostRuntime) -> Result<(), Fail> {
+    let alloc = rt.alloc();
+    for (shows, number, text, output) in REFUSED {
+        let input = changed(alloc, number, text)?;
+        expect(
+            &rt,
+            alloc,
+            shows,
+            input.as_bytes(),
+            output,
+            Status::Malformed,
+        )?;
+    }
+    let mut bytes = Vec::from_slice(alloc, ONE_SHOT.as_bytes())?;
+    bytes.push(0xff)?;
+    let output = "error 43 line 18\n";
+    expect(
+        &rt,
+        alloc,
+        "a byte behind",
+        bytes.as_slice(),
+        output,
+        Status::Malformed,
+    )
+}
+
+#[test]
+fn line_ends(rt: HostRuntime) -> Result<(), Fail> {
+    let alloc = rt.alloc();
+    let crlf = ONE_SHOT.replace(alloc, "\n", "\r\n")?;
+    for text in [crlf.as_str(), ONE_SHOT.trim_end(), crlf.trim_end()] {
+        expect(&rt, alloc, text, text.as_bytes(), SHOT, Status::Done)?;
+    }
+    let output = "error 41 line 17\n";
+    let cut = format!(in alloc; "{}\r", ONE_SHOT.trim_end())?;
+    expect(
+        &rt,
+        alloc,
+        "CR and no LF",
+        cut.as_bytes(),
+        output,
+        Status::Malformed,
+    )
 }
 
 /// What a row shows, the lines of code, and the lines of the trace after the release.
@@ -227,13 +383,10 @@ const STATEMENTS: [(&str, &str, &str); 11] = [
 fn statements(rt: HostRuntime) -> Result<(), Fail> {
     let alloc = rt.alloc();
     for (shows, code, lines) in STATEMENTS {
-        let input = format!(in alloc; "%code\n{code}")?;
+        let input = running(alloc, code)?;
         let output = format!(in alloc; "%trace\nrel 0 1 0 0\n{lines}")?;
-        let mut src = source(alloc, input.as_bytes(), &[], 4096)?;
-        let mut out = MemSink::new(alloc, ROOM, Vec::new(alloc), 4096)?;
-        let found = called(alloc, "run", &mut src, &mut out)?;
-        assert_eq!(rt; found, Status::Done, "{shows}");
-        assert_eq!(rt; out.written(), output.as_bytes(), "{shows}");
+        let output = output.as_str();
+        expect(&rt, alloc, shows, input.as_bytes(), output, Status::Done)?;
     }
     Ok(())
 }

@@ -1,5 +1,5 @@
 -- A listing assembled again gives the same words.
-use Rattle.std.proofs.Common.{◌≡◌, ℕ, zero, suc, ◌+◌, ◌*◌, ◌^◌, ◌<◌, ◌≤◌, Bool, false, nat_lt, List, [], ◌∷◌, ◌++◌, length, take, Some, None, Ok, refl, sym, ap, ap₂, subst, ◌∙◌, arith, if◌then◌else◌}
+use Rattle.std.proofs.Common.{◌≡◌, ℕ, zero, suc, ◌+◌, ◌*◌, ◌^◌, ◌<◌, ◌≤◌, Bool, false, nat_lt, List, [], ◌∷◌, ◌++◌, length, take, Some, None, Ok, refl, sym, ap, ap₂, subst, ◌∙◌, arith, cond, if◌then◌else◌}
 use Rattle.std.proofs.lemmas.Bool.Decides.{nat_tests}
 use Rattle.std.proofs.lemmas.List.{length-take-le}
 use Rattle.std.proofs.lemmas.List.Sums.{sum_by-cons}
@@ -20,7 +20,8 @@ use Rattle.em_asm.specs.Code.{Labels, code_of, size_of}
 use Rattle.em_asm.specs.Image.{AreClear, IsImageOf, code_size, gather, is_known, label_at, labels_of, layout_fault, line_at, room_fault, shared_word, shared_words, target_fault, wait_at, waits_of}
 use Rattle.em_show.specs.Back.{ReadsBack, one_word}
 use Rattle.em_show.specs.Listing.{AreTextsOf, IsTextOf}
-use Rattle.em_run.specs.Program.{AllSay, Assembles, HasNoHeader, is_header, line_at as text_at}
+use Rattle.em_bundle.specs.Code.{AllSay, IsCodeOf}
+use Rattle.em_bundle.specs.Parts.{headers_in, is_header}
 
 -- ---- a line of one word
 
@@ -190,19 +191,17 @@ read-all laws (word ∷ words) texts small t =
 not-header : Laws → (word : ℕ) (text : List ℕ) → IsTextOf word text → is_header text ≡ false
 not-header laws word text t = let other = laws.no_header word text t in grind (arith, nat_tests, other)
 
-no-headers : Laws → (words : List ℕ) (texts : List (List ℕ)) → AreTextsOf words texts → HasNoHeader texts (length texts)
-no-headers laws [] texts t i h = absurd (omega (arith, ap length t))
-no-headers laws (word ∷ words) texts t zero h = ap (λ ts. is_header (text_at ts 0)) t.2 ∙ not-header laws word t.0 t.3
-no-headers laws (word ∷ words) texts t (suc i) h =
-    ap (λ ts. is_header (text_at ts (suc i))) t.2 ∙ no-headers laws words t.1 t.4 i (omega (arith, ap length t.2))
+pub no-headers : Laws → (words : List ℕ) (texts : List (List ℕ)) → AreTextsOf words texts → headers_in texts ≡ []
+no-headers laws [] texts t = ap headers_in t
+no-headers laws (word ∷ words) texts t =
+    ap headers_in t.2 ∙ (ap (λ b. cond b (t.0 ∷ headers_in t.1) (headers_in t.1)) (not-header laws word t.0 t.3) ∙ no-headers laws words t.1 t.4)
 
-pub assembles-again : Laws → (words : List ℕ) (texts : List (List ℕ)) → length words ≤ most_words → All (λ word. word < 2 ^ 32) words → AreTextsOf words texts
-    → Assembles texts (code_alone words)
-assembles-again laws words texts few small t =
+pub assembles-again : Laws → (first : ℕ) (words : List ℕ) (texts : List (List ℕ)) → length words ≤ most_words → All (λ word. word < 2 ^ 32) words → AreTextsOf words texts
+    → IsCodeOf first texts (code_alone words)
+assembles-again laws first words texts few small t =
     let read = read-all laws words texts small t in
     record {
-      plain = no-headers laws words texts t;
       items = read.lines;
       read = read.said;
-      assembled = image-alone 2 read.lines words read.alone few;
+      assembled = image-alone first read.lines words read.alone few;
     }

@@ -1,62 +1,47 @@
--- Where nothing is amiss, nothing but the run is due: a program isn't refused.
-use Rattle.std.proofs.Common.{◌≡◌, ◌⊎◌, ℕ, zero, suc, ◌<◌, ◌≤◌, Bool, true, false, List, [], ◌∷◌, ◌++◌, length, Option, Some, None, inl, inr, refl, sym, ap, subst, ◌∙◌, arith, append-nil, length-append, codes}
-use Rattle.std.proofs.lemmas.List.{take_all}
-use Rattle.std.specs.Str.{IsUtf8, IsValidUpTo}
-use Rattle.em_base.specs.declared.images.Image.{Image}
+-- What comes where nothing is amiss, and where the bytes alone are.
+use Rattle.std.proofs.Common.{◌≡◌, ◌≢◌, ◌∙◌, ℕ, ◌≤◌, ◌⊎◌, Bool, true, false, List, [], ◌++◌, length, Option, Some, None, inl, inr, refl, sym, ap, subst, arith, append-nil, length-append}
+use Rattle.em_base.specs.declared.apps.App.{App}
 use Rattle.em_base.specs.declared.refusals.Refusal.{Refusal}
+use Rattle.em_bundle.specs.Application.{IsApplication, IsRefused}
 use Rattle.em_io.specs.Bytes.{input_limit, Rose, then_left, IsAtEnd}
-use Rattle.em_asm_read.specs.declared.items.Line.{Line}
-use Rattle.em_asm_read.specs.Lines.{IsFaulty, IsLine}
-use Rattle.em_asm.specs.Image.{IsImageOf, IsRefused as IsRefusedByAssembler}
+use Rattle.em_run.specs.declared.commands.Command.{Command}
+use Rattle.em_run.specs.declared.commands.Command.TheVariants.{Run, List as ListCode}
 use Rattle.em_run.specs.declared.status.Status.{Status}
 use Rattle.em_run.specs.declared.status.Status.TheVariants.{Done, Usage, ReadFault, WriteFault, TooLong, Malformed, NoMemory}
-use Rattle.em_run.specs.Commands.{HasCommand}
-use Rattle.em_run.specs.Output.{IsDue, Reading}
-use Rattle.em_run.specs.Program.{AllSay, Assembles, IsProgram, IsRefused, IsRefusedAfter, IsTextRefused, is_header, line_at}
+use Rattle.em_run.specs.Alone.{is_alone}
+use Rattle.em_run.specs.Commands.{IsCommand, command_text}
+use Rattle.em_run.specs.Output.{IsCarriedOut, IsDue, IsRefusedBy, ReadsAll, ReadsWithin, Reading}
 
--- what the languages of lines and of images keep: a line says one thing, or has a fault; lines have an image, or are refused
+-- what bundles keep
 pub record Laws : Type 0 where
-  pub line : (text : List ℕ) (one other : Line) → IsLine text one → IsLine text other → one ≡ other
-  pub either : (text : List ℕ) (line : Line) (code : ℕ) → IsLine text line → IsFaulty text code → ⊥
-  pub image : (first : ℕ) (lines : List Line) (image : Image) (refusal : Refusal) → IsImageOf first lines image → IsRefusedByAssembler first lines refusal → ⊥
+  pub app : (bytes : List ℕ) (one other : App) → IsApplication bytes one → IsApplication bytes other → one ≡ other
+  pub either : (bytes : List ℕ) (app : App) (refusal : Refusal) → IsApplication bytes app → IsRefused bytes refusal → ⊥
 
-same_items : Laws → (texts : List (List ℕ)) (xs ys : List Line) → AllSay texts xs → AllSay texts ys → xs ≡ ys
-same_items laws [] xs ys h k = h ∙ sym k
-same_items laws (t ∷ ts) xs ys h k =
-    h.2 ∙ ap (λ x. x ∷ h.1) (laws.line t h.0 k.0 h.3 k.3) ∙ ap (λ rest. k.0 ∷ rest) (same_items laws ts h.1 k.1 h.4 k.4) ∙ sym k.2
+-- ---- words are one command
 
--- the item at a place
-item_at : (texts : List (List ℕ)) (items : List Line) (place : ℕ) → place < length texts → AllSay texts items → (item : Line) × IsLine (line_at texts place) item
-item_at [] items place h s = absurd (omega arith)
-item_at (t ∷ ts) items zero h s = (s.0, s.3)
-item_at (t ∷ ts) items (suc n) h s = item_at ts s.1 n (omega arith) s.4
+same_text : (one other : Command) → command_text one ≡ command_text other → one ≡ other
+same_text Run Run e = refl
+same_text Run ListCode e = absurd (omega (arith, ap length e))
+same_text ListCode Run e = absurd (omega (arith, ap length e))
+same_text ListCode ListCode e = refl
+
+same_some : (one other : List ℕ) → Some one ≡ Some other → one ≡ other
+same_some one other e = cc
+
+one_command : (words : List (List ℕ)) (one other : Command) → IsCommand words one → IsCommand words other → one ≡ other
+one_command words one other h k = same_text one other (same_some (command_text one) (command_text other) (sym h.named ∙ k.named))
+
+-- ---- bytes aren't both carried out and refused
 
 both_ways : (b : Bool) → b ≡ false → b ≡ true → ⊥
 both_ways b e f = let t : false ≡ true = sym e ∙ f in absurd (cc)
 
-after_not_refused : Laws → (texts : List (List ℕ)) (image : Image) (refusal : Refusal) → Assembles texts image → IsRefusedAfter texts refusal → ⊥
-after_not_refused laws texts image refusal a (inl h) = both_ways (is_header (line_at texts h.place)) (a.plain h.place h.within) h.header
-after_not_refused laws texts image refusal a (inr (inl h)) =
-    let item = item_at texts a.items h.named.place h.named.within a.read in
-    laws.either (line_at texts h.named.place) item.0 refusal.code item.1 h.named.faulty
-after_not_refused laws texts image refusal a (inr (inr h)) =
-    laws.image 2 a.items image refusal a.assembled (subst (λ items. IsRefusedByAssembler 2 items refusal) (same_items laws texts h.items a.items h.read a.read) h.refused)
-
-rest_of : (a : List ℕ) (cs ds : List (List ℕ)) → a ∷ cs ≡ a ∷ ds → cs ≡ ds
-rest_of a cs ds e = cc
-
-text_not_refused : Laws → (bytes : List ℕ) (image : Image) (refusal : Refusal) → IsProgram bytes image → IsTextRefused bytes refusal → ⊥
-text_not_refused laws bytes image refusal p (inl h) = h.headless p.rest p.headed
-text_not_refused laws bytes image refusal p (inr h) =
-    after_not_refused laws h.0 image refusal (subst (λ t. Assembles t image) (rest_of (codes "%code") p.rest h.0 (sym p.headed ∙ h.1)) p.image_of) h.2
-
--- bytes that are UTF-8 are so to their end
-broken_or_text : (bytes : List ℕ) (n : ℕ) → IsValidUpTo bytes n → IsUtf8 bytes → ⊥
-broken_or_text bytes n h u = h.longest (length bytes) h.short (subst IsUtf8 (sym (take_all (length bytes) bytes (omega arith))) u)
-
-pub program_not_refused : Laws → (bytes : List ℕ) (image : Image) (refusal : Refusal) → IsProgram bytes image → IsRefused bytes refusal → ⊥
-program_not_refused laws bytes image refusal p (inl h) = broken_or_text bytes h.place h.broken p.utf8
-program_not_refused laws bytes image refusal p (inr h) = text_not_refused laws bytes image refusal p h.1
+not_both : Laws → (command : Command) (bytes : List ℕ) (app : App) (refusal : Refusal) → IsApplication bytes app → IsCarriedOut command app → IsRefusedBy command bytes refusal → ⊥
+not_both laws command bytes app refusal stands carried (inl h) = laws.either bytes app refusal stands h
+not_both laws command bytes app refusal stands carried (inr h) =
+    let same : h.app ≡ app = laws.app bytes h.app app h.stands stands in
+    let alone : is_alone app ≡ true = subst (λ command. IsCarriedOut command app) h.run carried in
+    both_ways (is_alone app) (ap is_alone (sym same) ∙ h.more) alone
 
 -- ---- what was read, where the source tells it
 
@@ -72,16 +57,52 @@ read_all_of bytes taken (Some rest) e h =
     let same : bytes ≡ taken ++ rest = cc in
     sym (same ∙ ap (λ t. taken ++ t) h ∙ append-nil taken)
 
-pub complete : Laws → (words : List (List ℕ)) (r : Reading) (s : Status) (text bytes : List ℕ) (image : Image) → HasCommand words → r.left_before ≡ Some bytes → length bytes ≤ input_limit → IsProgram bytes image
-    → (Rose r.faults_before r.faults_after → ⊥) → IsDue words r s text → (s ≡ Done) ⊎ (s ≡ NoMemory)
-complete laws words r Done text bytes image w told few p still d = inl refl
-complete laws words r NoMemory text bytes image w told few p still d = inr refl
-complete laws words r Usage text bytes image w told few p still d = absurd (d.0 w.0 w.1)
-complete laws words r ReadFault text bytes image w told few p still d = absurd (still d.2)
-complete laws words r WriteFault text bytes image w told few p still d = absurd d
-complete laws words r TooLong text bytes image w told few p still d =
-    let within = took_all bytes d.1.0 r.left_after (sym told ∙ d.1.2) in
-    absurd (omega (arith, within, d.1.1, few))
-complete laws words r Malformed text bytes image w told few p still d =
-    let same = read_all_of bytes d.1.0 r.left_after (sym told ∙ d.1.1.all) d.1.1.to_end in
-    absurd (program_not_refused laws bytes image d.1.2.0 p (subst (λ b. IsRefused b d.1.2.0) same d.1.2.1))
+same_bytes : (r : Reading) (bytes taken : List ℕ) → r.left_before ≡ Some bytes → ReadsAll r taken → taken ≡ bytes
+same_bytes r bytes taken told read = read_all_of bytes taken r.left_after (sym told ∙ read.all) read.to_end
+
+nothing_taken : (before after : Option (List ℕ)) → after ≡ before → before ≡ then_left [] after
+nothing_taken before None e = sym e
+nothing_taken before (Some rest) e = sym e
+
+-- no more was read than the limit, where not the length is what is amiss
+pub within_limit : (words : List (List ℕ)) (r : Reading) (s : Status) (text : List ℕ) → IsDue words r s text → s ≢ TooLong → ReadsWithin r
+within_limit words r Done text d other = (d.due.bytes, d.due.read.within, d.due.read.all)
+within_limit words r Usage text d other = ([], omega arith, nothing_taken r.left_before r.left_after d.1)
+within_limit words r ReadFault text d other = d.due.0
+within_limit words r WriteFault text d other = absurd d
+within_limit words r TooLong text d other = absurd (other refl)
+within_limit words r Malformed text d other = (d.due.bytes, d.due.read.within, d.due.read.all)
+within_limit words r NoMemory text d other = d.0
+
+-- ---- what comes
+
+pub complete : Laws → (words : List (List ℕ)) (r : Reading) (s : Status) (text : List ℕ) (command : Command) (bytes : List ℕ) (app : App) → IsCommand words command → r.left_before ≡ Some bytes
+    → length bytes ≤ input_limit → IsApplication bytes app → IsCarriedOut command app → (Rose r.faults_before r.faults_after → ⊥) → IsDue words r s text → (s ≡ Done) ⊎ (s ≡ NoMemory)
+complete laws words r Done text command bytes app w told few stands carried still d = inl refl
+complete laws words r NoMemory text command bytes app w told few stands carried still d = inr refl
+complete laws words r Usage text command bytes app w told few stands carried still d = absurd (d.0 command w)
+complete laws words r ReadFault text command bytes app w told few stands carried still d = absurd (still d.due.1)
+complete laws words r WriteFault text command bytes app w told few stands carried still d = absurd d
+complete laws words r TooLong text command bytes app w told few stands carried still d =
+    let within = took_all bytes d.due.0.0 r.left_after (sym told ∙ d.due.0.2) in
+    absurd (omega (arith, within, d.due.0.1, few))
+complete laws words r Malformed text command bytes app w told few stands carried still d =
+    let refusal = d.due.due.refusal in
+    let by : IsRefusedBy command d.due.bytes refusal = subst (λ c. IsRefusedBy c d.due.bytes refusal) (one_command words d.command command d.words_are w) d.due.due.refused in
+    absurd (not_both laws command bytes app refusal stands carried (subst (λ b. IsRefusedBy command b refusal) (same_bytes r bytes d.due.bytes told d.due.read) by))
+
+pub refuses : Laws → (words : List (List ℕ)) (r : Reading) (s : Status) (text : List ℕ) (command : Command) (bytes : List ℕ) (refusal : Refusal) → IsCommand words command → r.left_before ≡ Some bytes
+    → length bytes ≤ input_limit → IsRefusedBy command bytes refusal → (Rose r.faults_before r.faults_after → ⊥) → IsDue words r s text → (s ≡ Malformed) ⊎ (s ≡ NoMemory)
+refuses laws words r Malformed text command bytes refusal w told few refused still d = inl refl
+refuses laws words r NoMemory text command bytes refusal w told few refused still d = inr refl
+refuses laws words r Usage text command bytes refusal w told few refused still d = absurd (d.0 command w)
+refuses laws words r ReadFault text command bytes refusal w told few refused still d = absurd (still d.due.1)
+refuses laws words r WriteFault text command bytes refusal w told few refused still d = absurd d
+refuses laws words r TooLong text command bytes refusal w told few refused still d =
+    let within = took_all bytes d.due.0.0 r.left_after (sym told ∙ d.due.0.2) in
+    absurd (omega (arith, within, d.due.0.1, few))
+refuses laws words r Done text command bytes refusal w told few refused still d =
+    let out = d.due.due in
+    let carried : IsCarriedOut command out.app = subst (λ c. IsCarriedOut c out.app) (one_command words d.command command d.words_are w) out.carried in
+    let stands : IsApplication bytes out.app = subst (λ b. IsApplication b out.app) (same_bytes r bytes d.due.bytes told d.due.read) out.stands in
+    absurd (not_both laws command bytes out.app refusal stands carried refused)

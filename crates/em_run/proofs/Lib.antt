@@ -1,4 +1,3 @@
 pub mod Again
 pub mod Complete
-pub mod Reading
 pub mod Stepping

@@ -3,8 +3,7 @@ pub mod Trace
 pub mod Calls
 pub mod Plain
 pub mod Machine
-pub mod Program
-pub mod Reading
 pub mod Commands
+pub mod Alone
 pub mod Output
 pub mod Texts

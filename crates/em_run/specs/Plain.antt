@@ -1,7 +1,12 @@
--- The plain machine of one task, numbered 0, and its run: this project's own, over the meaning of one instruction.
-use Rattle.std.specs.Prelude.{ℕ, zero, suc, Bool, true, false, not, ◌&&◌, nat_lt, List, [], ◌∷◌, ◌++◌, length, replicate, slice_set, None, if◌then◌else◌}
+-- The plain machine of one task, the first of an application, and its run: this project's own, over the meaning of one
+-- instruction.
+use Rattle.std.specs.Prelude.{ℕ, zero, suc, ◌-◌, ◌*◌, max, Bool, true, false, not, ◌&&◌, nat_lt, List, [], ◌∷◌, ◌++◌, length, replicate, slice_set, None, if◌then◌else◌}
 use Rattle.std.specs.List.{flat_map}
+use Rattle.std.specs.Option.{unwrap_or}
+use Rattle.em_base.specs.declared.apps.App.{App}
 use Rattle.em_base.specs.declared.ids.TaskId.{TaskId}
+use Rattle.em_base.specs.declared.tables.TaskRow.{TaskRow}
+use Rattle.em_asm.specs.Code.{address_of}
 use Rattle.em_hart.specs.Hart.{Registers, Memory, bytes_of, with_register}
 use Rattle.em_hart.specs.Instruction.{Outcome, Ran, Call, Fault, exec}
 use Rattle.em_run.specs.declared.trace.Line.{Line}
@@ -21,23 +26,31 @@ pub record Plain : Type 0 where
 abbrev pub task : TaskId
 task = record { 0 = 0 }
 
--- where the windows stand, and how long the own window is
+-- where the windows stand
 abbrev pub own_base : ℕ
 own_base = 0x10000000
 
 abbrev pub shared_base : ℕ
 shared_base = 0x20000000
 
-abbrev pub own_length : ℕ
-own_length = 1024
+-- the address at which the first of the tasks starts: that of the label of its entry
+abbrev pub entry_of : List (List ℕ × ℕ) → List TaskRow → ℕ
+entry_of labels [] = 0
+entry_of labels (row ∷ rows) = unwrap_or (address_of labels row.entry) 0
 
--- the task at address 0 with every register 0, its own window all zero, a shared window of these words, and eight ports that
+-- a window of so many bytes that begins with these words, and is zero behind them
+abbrev pub window : ℕ → List ℕ → ℕ → Memory
+window base words size =
+    record { base = base; bytes = flat_map (bytes_of 4) words ++ replicate (size - 4 * length words) 0 }
+
+-- the task at its entry with every register 0, an own window of the table's length, all zero, a shared window that begins
+-- with the shared words and is as long as the table says, or as the words are where that is longer, and eight ports that
 -- show 0
-abbrev pub boot : List ℕ → Plain
-boot words = record {
-  registers = record { values = replicate 32 0; pc = 0 };
-  own = record { base = own_base; bytes = replicate own_length 0 };
-  shared = record { base = shared_base; bytes = flat_map (bytes_of 4) words };
+abbrev pub boot : App → Plain
+boot app = record {
+  registers = record { values = replicate 32 0; pc = entry_of app.image.labels app.table.tasks };
+  own = window own_base [] app.table.own;
+  shared = window shared_base app.image.shared (max app.table.shared (4 * length app.image.shared));
   stopped = false;
   ports = replicate 8 0;
   lines = [];
@@ -108,6 +121,6 @@ unfoldable pub steps : List ℕ → ℕ → Plain → Plain
 steps code zero p = p
 steps code (suc n) p = if goes_on p then steps code n (step code p) else p
 
--- the trace of code and shared words: the lines of the run of the task, which is released once, at time 0 with the word 0
-abbrev pub trace_of : List ℕ → List ℕ → List Line
-trace_of code words = (steps code most_steps (released 0 0 (boot words))).lines
+-- the trace of an application: the lines of the run of its first task, which is released once, at time 0 with the word 0
+abbrev pub trace_of : App → List Line
+trace_of app = (steps app.image.words most_steps (released 0 0 (boot app))).lines

@@ -1,27 +1,93 @@
 //! The commands, by the words of the program.
-ghost use Rattle.std.specs.Prelude.{IfSome, IfNone, map, string_bytes};
-ghost use Rattle.em_run.specs.Commands.{IsCommand, IsNoCommand};
+ghost use Rattle.std.specs.Prelude.{◌≡◌, ◌≢◌, [], IfOk, IfSome, IfNone, Some, map, option_map, string_bytes};
+ghost use Rattle.clap.specs.Words.{app_of, fault_of, first_of, found_of, matches_of, rows_of};
+ghost use Rattle.em_run.specs.Commands as spec;
+ghost use Rattle.em_run.specs.Commands.{IsCommand, IsNoCommand, command_text};
 
-/// What the program is told to do with a program of the machine.
+use clap::error::ErrorKind;
+use clap::{Arg, ArgAction, ArgMatches};
+use em_base::NoMemory;
+use std::alloc::{AllocError, Global};
+
+/// What the program is told to do with a bundle.
 #[derive(Clone, Copy, Debug, PartialEq, Eq)]
 pub enum Command {
-    /// `run`: run it, and write the trace.
+    /// `run`: run its application, and write the trace.
     Run,
     /// `list`: write the listing of its code.
     List,
 }
 
-/// The command that the words are: the one word `run`, or the one word `list`. Other words are none.
-pub fn command_of(words: &[String]) -> Option<Command>
-    ensures some { IfSome result (IsCommand (map string_bytes words.now)) }
-    ensures none { IfNone result (IsNoCommand (map string_bytes words.now)) }
+/// The program's command line: one value COMMAND, which is required, and an option `--number` with a value.
+fn command_line<'a>(alloc: Global) -> Result<clap::Command<'a>, AllocError>
+    ensures { IfOk result (λ line. app_of line ≡ spec.command_line) }
 {
-    if words.len() != 1 {
-        return None;
+    let command = Arg::new(alloc, "COMMAND")
+        .required(true)
+        .action(ArgAction::Set);
+    let number = Arg::new(alloc, "number")
+        .long("number")
+        .action(ArgAction::Set);
+    let line = clap::Command::new(alloc, "emeralds")
+        .disable_help_flag(true)
+        .disable_version_flag(true)
+        .no_binary_name(true)
+        .arg(command)?
+        .arg(number)?;
+    Ok(line)
+}
+
+/// What the words give to the arguments of the command line, where it takes them.
+fn matches<'a>(alloc: Global, words: &'a [String]) -> Result<Option<ArgMatches<'a>>, NoMemory>
+    ensures taken { IfOk result (λ found. IfSome found (λ m. fault_of spec.command_line (map string_bytes words.now) ≡ [])) }
+    ensures rows { IfOk result (λ found. IfSome found (λ m. rows_of (found_of m) ≡ matches_of spec.command_line (map string_bytes words.now))) }
+    ensures refused { IfOk result (λ found. IfNone found (fault_of spec.command_line (map string_bytes words.now) ≢ [])) }
+{
+    match command_line(alloc)?.try_get_matches_from(words) {
+        Ok(found) => Ok(Some(found)),
+        Err(error) => {
+            if error.kind() == ErrorKind::OutOfMemory {
+                Err(NoMemory)
+            } else {
+                Ok(None)
+            }
+        }
     }
-    match words[0].as_str() {
+}
+
+/// The first value of an argument.
+fn value<'a>(found: &ArgMatches<'a>, id: &str) -> Option<&'a str>
+    ensures { option_map (λ text. text.now) result ≡ first_of id.now (rows_of (found_of found.now)) }
+{
+    found.get_str(id)
+}
+
+/// The command of a name.
+fn named(name: &str) -> Option<Command>
+    ensures some { IfSome result (λ command. name.now ≡ command_text command) }
+    ensures none { IfNone result ((command : Command) → name.now ≢ command_text command) }
+{
+    match name {
         "run" => Some(Command::Run),
         "list" => Some(Command::List),
         _ => None,
+    }
+}
+
+/// The command that the words are: COMMAND is `run` or `list`, and no `--number` is given, which is for commands that come
+/// later. Other words are none. `NoMemory` where memory to read the words could not be had.
+pub fn command_of(alloc: Global, words: &[String]) -> Result<Option<Command>, NoMemory>
+    ensures some { IfOk result (λ found. IfSome found (IsCommand (map string_bytes words.now))) }
+    ensures none { IfOk result (λ found. IfNone found (IsNoCommand (map string_bytes words.now))) }
+{
+    let Some(found) = matches(alloc, words)? else {
+        return Ok(None);
+    };
+    if value(&found, "number").is_some() {
+        return Ok(None);
+    }
+    match value(&found, "COMMAND") {
+        Some(name) => Ok(named(name)),
+        None => Ok(None),
     }
 }

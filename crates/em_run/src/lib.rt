@@ -5,7 +5,6 @@ pub mod answer;
 pub mod commands;
 pub mod laws;
 pub mod machine;
-pub mod program;
 pub mod status;
 pub mod top;
 pub mod trace;

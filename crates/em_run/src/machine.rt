@@ -1,11 +1,14 @@
 //! The machine of one task: its registers and windows, the ports, and the trace of what it does.
 ghost use Rattle.std.specs.Prelude.{◌≡◌, ◌<◌, ◌≤◌, ◌++◌, ◌∷◌, [], List, length, IfOk, OnOk, OnErr};
 ghost use Rattle.em_hart.specs.Instruction.{Call, Fault};
+ghost use Rattle.em_asm.specs.Code.{address_of as label_address};
+ghost use Rattle.em_bundle.specs.Valid.{IsApp};
 ghost use Rattle.em_run.specs.Calls.{Refuses, Exits, call_number, out_outcome, answered};
+ghost use Rattle.em_run.specs.Plain as spec;
 ghost use Rattle.em_run.specs.Plain.{boot, released, step, goes_on, trace_of, after_call, after_instruction};
 
 use crate::trace::Line;
-use em_base::{Items, NoMemory, PortId, TaskId};
+use em_base::{App, Image, Items, NoMemory, PortId, TaskId};
 use em_hart::{Regs, Stepped, Window};
 use std::alloc::Global;
 
@@ -20,9 +23,6 @@ const OWN_BASE: u32 = 0x1000_0000;
 
 /// Where the shared window stands.
 const SHARED_BASE: u32 = 0x2000_0000;
-
-/// The length of the own window, in bytes.
-const OWN_LENGTH: u32 = 1024;
 
 /// The one task.
 const TASK: TaskId = TaskId(0);
@@ -47,16 +47,38 @@ struct Machine {
     ghost shared_stands: { shared.base ≡ 0x20000000 },
 }
 
-/// The trace of a run of the code: one task at address 0 with an own window of 1,024 bytes, a shared window of the shared
-/// words and eight ports that latch and show 0, released once at time 0 with the word 0. Code and shared words are 16,384
-/// each at most. The run ends where the task is stopped, where 20,000,000 steps are done, or where the trace has 1,000,000
-/// lines. Its only refusal is `NoMemory`.
-pub fn run(alloc: Global, code: &[u32], words: &[u32]) -> Result<Items<Line>, NoMemory>
-    requires code { length code.now ≤ 16384 }
-    requires words { length words.now ≤ 16384 }
-    ensures { IfOk result (λ lines. lines ≡ trace_of code.now words.now) }
+/// The address of the label of a name.
+fn address_of(image: &Image, name: &str) -> Option<u32>
+    ensures { result ≡ label_address image.now.labels name.now }
 {
-    let mut machine = Machine::new(alloc, words)?;
+    for label in image.labels.as_slice() {
+        if name == label.0.as_str() {
+            return Some(label.1);
+        }
+    }
+    None
+}
+
+/// The address at which the application's first task starts.
+fn entry_of(app: &App) -> u32
+    ensures { result ≡ spec.entry_of app.now.image.labels app.now.table.tasks }
+{
+    match app.table.tasks.as_slice().first() {
+        Some(row) => address_of(&app.image, row.entry.as_str()).unwrap_or(0),
+        None => 0,
+    }
+}
+
+/// The trace of a run of an application's first task, by itself: it starts at its entry with an own window of the table's
+/// length, a shared window that begins with the shared words and has the table's length, or theirs where that is longer, and
+/// eight ports that latch and show 0, and is released once, at time 0 with the word 0. The run ends where the task is
+/// stopped, where 20,000,000 steps are done, or where the trace has 1,000,000 lines. Its only refusal is `NoMemory`.
+pub fn run(alloc: Global, app: &App) -> Result<Items<Line>, NoMemory>
+    requires { IsApp app.now }
+    ensures { IfOk result (λ lines. lines ≡ trace_of app.now) }
+{
+    let code = app.image.words.as_slice();
+    let mut machine = Machine::new(alloc, app)?;
     machine.release(alloc, 0, 0)?;
     'steps: for _ in 0..MOST_STEPS {
         if !machine.goes_on() {
@@ -70,15 +92,17 @@ pub fn run(alloc: Global, code: &[u32], words: &[u32]) -> Result<Items<Line>, No
 impl Machine {
     ghost use Rattle.em_run.specs.Machine.{state_of};
 
-    /// The machine before anything has happened, with these shared words.
-    fn new(alloc: Global, words: &[u32]) -> Result<Machine, NoMemory>
-        requires { length words.now ≤ 16384 }
-        ensures { IfOk result (λ machine. state_of machine ≡ boot words.now) }
+    /// The machine before anything has happened, for the application's first task.
+    fn new(alloc: Global, app: &App) -> Result<Machine, NoMemory>
+        requires { IsApp app.now }
+        ensures { IfOk result (λ machine. state_of machine ≡ boot app.now) }
     {
+        let words = app.image.shared.as_slice();
+        let length = app.table.shared.max(4 * words.len() as u32);
         Ok(Machine {
-            registers: Regs::new(0),
-            own: Window::new(alloc, OWN_BASE, &[], OWN_LENGTH)?,
-            shared: Window::new(alloc, SHARED_BASE, words, 4 * words.len() as u32)?,
+            registers: Regs::new(entry_of(app)),
+            own: Window::new(alloc, OWN_BASE, &[], app.table.own)?,
+            shared: Window::new(alloc, SHARED_BASE, words, length)?,
             stopped: false,
             ports: [0; 8],
             lines: Items::new(alloc),

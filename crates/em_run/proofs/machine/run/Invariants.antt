@@ -5,4 +5,4 @@ use Rattle.em_run.proofs.machine.run.Given as goal
 
 -- the steps that are left lead to the end of the run
 abbrev pub invariant-steps : goal.invariant-steps
-invariant-steps l = (n : ℕ) → n + l.counter ≡ most_steps → steps l.code n (state_of l.machine) ≡ steps l.code most_steps (released 0 0 (boot l.words))
+invariant-steps l = (n : ℕ) → n + l.counter ≡ most_steps → steps l.app.image.words n (state_of l.machine) ≡ steps l.app.image.words most_steps (released 0 0 (boot l.app))

@@ -1,11 +1,23 @@
 use Rattle.std.proofs.Common.{map, string_bytes}
 use Rattle.em_run.specs.Output.{reading}
 use Rattle.em_run.specs.Texts.{bytes_of}
-use Rattle.em_run.proofs.Complete.{complete}
+use Rattle.em_run.proofs.Complete.{complete, refuses, within_limit}
 use Rattle.em_run.proofs.top.emeralds.Goals as goal
 
-pub returns-in-Ok-clause-complete : goal.returns-in-Ok-clause-complete
-returns-in-Ok-clause-complete g c = λ bytes image words told few program still written.
-    complete record { line = c.one_meaning.ensures.line; either = c.one_meaning.ensures.either; image = c.one_image.ensures.either } (map string_bytes c.args.words.now)
+pub returns-in-Ok-clause-within : goal.returns-in-Ok-clause-within
+returns-in-Ok-clause-within g c = λ other written.
+    within_limit (map string_bytes c.args.words.now)
     (reading (g.S.Source.left c.args.src.now) (g.S.Source.left c.decide-due.new.src) (g.S.Source.faults c.args.src.now) (g.S.Source.faults c.decide-due.new.src))
-    c.decide-due.result.status (bytes_of c.decide-due.result.text) bytes image words told few program still c.decide-due.ensures.due
+    c.decide-due.result.status (bytes_of c.decide-due.result.text) c.decide-due.ensures.due other
+
+pub returns-in-Ok-clause-complete : goal.returns-in-Ok-clause-complete
+returns-in-Ok-clause-complete g c = λ command bytes app words told few stands carried still written.
+    complete record { app = c.one_application.ensures.app; either = c.one_application.ensures.either } (map string_bytes c.args.words.now)
+    (reading (g.S.Source.left c.args.src.now) (g.S.Source.left c.decide-due.new.src) (g.S.Source.faults c.args.src.now) (g.S.Source.faults c.decide-due.new.src))
+    c.decide-due.result.status (bytes_of c.decide-due.result.text) command bytes app words told few stands carried still c.decide-due.ensures.due
+
+pub returns-in-Ok-clause-refuses : goal.returns-in-Ok-clause-refuses
+returns-in-Ok-clause-refuses g c = λ command bytes refusal words told few refused still written.
+    refuses record { app = c.one_application.ensures.app; either = c.one_application.ensures.either } (map string_bytes c.args.words.now)
+    (reading (g.S.Source.left c.args.src.now) (g.S.Source.left c.decide-due.new.src) (g.S.Source.faults c.args.src.now) (g.S.Source.faults c.decide-due.new.src))
+    c.decide-due.result.status (bytes_of c.decide-due.result.text) command bytes refusal words told few refused still c.decide-due.ensures.due
