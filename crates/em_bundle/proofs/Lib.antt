@@ -7,3 +7,4 @@ pub mod Reading
 pub mod Silent
 pub mod Spared
 pub mod Unique
+pub mod Refusals

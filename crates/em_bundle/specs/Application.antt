@@ -39,7 +39,7 @@ script_part lines = part_of script_header lines
 
 -- ---- each part
 
--- the table part is this table, and has no messages, which can't be read yet
+-- the table part is this table
 pub record IsTabled (lines : List (List ℕ)) (table : Table) : Type 0 where
   pub top : Members
   pub parsed : parse_document (text_of (table_part lines)) ≡ Some top

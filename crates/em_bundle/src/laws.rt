@@ -6,12 +6,15 @@ ghost use Rattle.em_bundle.specs.Application.{IsApplication, IsRefused};
 
 use em_asm::one_image;
 use em_asm_read::one_meaning;
+use em_script::one_script;
 
-/// Bytes stand for one application, or are refused, and never both.
+/// Bytes stand for one application, or are refused with one refusal, and never both.
 pub fn one_application()
     ensures app { (bytes : List ℕ) (one other : App) → IsApplication bytes one → IsApplication bytes other → one ≡ other }
+    ensures refusal { (bytes : List ℕ) (one other : Refusal) → IsRefused bytes one → IsRefused bytes other → one ≡ other }
     ensures either { (bytes : List ℕ) (app : App) (refusal : Refusal) → IsApplication bytes app → IsRefused bytes refusal → ⊥ }
 {
     one_meaning();
     one_image();
+    one_script();
 }

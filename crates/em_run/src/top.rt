@@ -6,7 +6,7 @@ ghost use Rattle.em_bundle.specs.Application.{IsApplication};
 ghost use Rattle.em_io.specs.Bytes.{input_limit, Rose, Took};
 ghost use Rattle.em_run.specs.declared.commands.Command.{Command};
 ghost use Rattle.em_run.specs.Commands.{IsCommand, IsNoCommand};
-ghost use Rattle.em_run.specs.Output.{IsCarriedOut, IsDue, IsOutputOf, IsRefusedBy, ReadsAll, Wrote, reading, refusal_text};
+ghost use Rattle.em_run.specs.Output.{IsCarriedOut, IsDue, IsOutput, IsOutputOf, IsRefusedBy, ReadsAll, Wrote, reading, refusal_text};
 
 use crate::answer::{decide, text_bytes};
 use crate::status::Status;
@@ -63,23 +63,31 @@ pub fn emeralds<S: Source, K: Sink>(
         × IsDue (map string_bytes words.now) (reading (S.left src.old) (S.left src.new) (S.faults src.old) (S.faults src.new)) status text
         × Wrote (K.written out.old) (K.written out.new) (take n text)) }
 
-    // Where nothing is amiss, the command is carried out, unless memory runs out.
+    // Where nothing is amiss, the output of the command is written, unless memory runs out.
     ensures complete { (command : Command) (bytes : List ℕ) (app : App) → IsCommand (map string_bytes words.now) command
         → S.left src.old ≡ Some bytes → length bytes ≤ input_limit → IsApplication bytes app → IsCarriedOut command app
         → ¬ (Rose (S.faults src.old) (S.faults src.new)) → ¬ (Rose (K.faults out.old) (K.faults out.new))
-        → (result ≡ Status.Done) ⊎ (result ≡ Status.NoMemory) }
+        → (result ≡ Status.NoMemory)
+        ⊎ ((result ≡ Status.Done) × ((text : List ℕ) × IsOutput command app text × Wrote (K.written out.old) (K.written out.new) text)) }
 
-    // Where the bytes alone are amiss, they are refused, unless memory runs out.
+    // Where the bytes alone are amiss, their refusal is written, unless memory runs out.
     ensures refuses { (command : Command) (bytes : List ℕ) (refusal : Refusal) → IsCommand (map string_bytes words.now) command
         → S.left src.old ≡ Some bytes → length bytes ≤ input_limit → IsRefusedBy command bytes refusal
         → ¬ (Rose (S.faults src.old) (S.faults src.new)) → ¬ (Rose (K.faults out.old) (K.faults out.new))
-        → (result ≡ Status.Malformed) ⊎ (result ≡ Status.NoMemory) }
+        → (result ≡ Status.NoMemory)
+        ⊎ ((result ≡ Status.Malformed) × Wrote (K.written out.old) (K.written out.new) (refusal_text refusal.code refusal.line)) }
+
+    // Where the length alone is amiss, the input is refused for it, unless memory runs out.
+    ensures refuses_length { (command : Command) (bytes : List ℕ) → IsCommand (map string_bytes words.now) command
+        → S.left src.old ≡ Some bytes → input_limit < length bytes
+        → ¬ (Rose (S.faults src.old) (S.faults src.new)) → ¬ (Rose (K.faults out.old) (K.faults out.new))
+        → (result ≡ Status.NoMemory) ⊎ (result ≡ Status.TooLong) }
 
     // The counts of faults never fall.
     ensures source_grows { S.faults src.old ≤ S.faults src.new }
     ensures sink_grows { K.faults out.old ≤ K.faults out.new }
 {
-    // No bytes stand for two applications, or for one and are refused too, on which `complete` and `refuses` rest.
+    // Bytes stand for one application or have one refusal, on which `complete` and `refuses` rest.
     one_application();
     let due = decide(alloc, words, src);
     match write_all(out, text_bytes(&due.text)) {

@@ -3,9 +3,11 @@
 
 pub mod events;
 pub mod faults;
+pub mod laws;
 pub mod lines;
 pub mod reading;
 #[cfg(test)]
 mod tests;
 
+pub use laws::one_script;
 pub use reading::{read_lines, read_script};
