@@ -1,5 +1,5 @@
 -- What the readers of the parts answer, in the words of the whole.
-use Rattle.std.proofs.Common.{◌≡◌, ℕ, List, Result, Ok, Err, IfErr, IfOk, MatchResult, refl, true, inl, inr, length, sym, subst}
+use Rattle.std.proofs.Common.{◌≡◌, ◌⊎◌, ℕ, List, Result, Ok, Err, IfErr, IfOk, MatchResult, refl, true, inl, inr, length, sym, ap, subst}
 use Rattle.std.specs.Result.{IsErr, IsErrAnd}
 use Rattle.std.specs.Str.{IsUtf8}
 use Rattle.std.specs.Str.Lines.{lines}
@@ -62,3 +62,11 @@ pub complete : (bytes : List ℕ) (result : Result App Fail) (app : App) → ((o
 complete bytes (Ok found) app same never ok err a = same found app ok a
 complete bytes (Err NoMemory) app same never ok err a = refl
 complete bytes (Err (Refused refusal)) app same never ok err a = absurd (never app refusal a err)
+
+-- what is answered where there is a refusal, which is the only one, and no application
+pub refuses : (bytes : List ℕ) (result : Result App Fail) (refusal : Refusal) → ((one other : Refusal) → IsRefused bytes one → IsRefused bytes other → one ≡ other)
+    → ((one : App) (refusal : Refusal) → IsApplication bytes one → IsRefused bytes refusal → ⊥) → IfOk result (IsApplication bytes) → IfErr result (IsFailOf bytes)
+    → IsRefused bytes refusal → MatchResult result (λ found. ⊥) (λ fail. (fail ≡ Refused refusal) ⊎ (fail ≡ NoMemory))
+refuses bytes (Ok found) refusal same never ok err r = never found refusal ok r
+refuses bytes (Err NoMemory) refusal same never ok err r = inr refl
+refuses bytes (Err (Refused other)) refusal same never ok err r = inl (ap Refused (same other refusal err r))

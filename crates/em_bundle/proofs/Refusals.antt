@@ -1,8 +1,8 @@
 -- Bytes have one refusal: each stands where nothing above it is refused, and there is one of each kind.
-use Rattle.std.proofs.Common.{◌≡◌, ◌∙◌, ℕ, ◌+◌, ◌<◌, ◌⊎◌, Bool, true, false, List, [], length, take, get_or, count_by, nat_eq, Option, Some, inl, inr, sym, ap, ap₂, subst, arith}
+use Rattle.std.proofs.Common.{◌≡◌, ◌∙◌, ℕ, ◌+◌, ◌<◌, ◌⊎◌, true, List, [], length, take, get_or, count_by, nat_eq, Option, Some, inl, inr, sym, ap, ap₂, subst, arith}
 use Rattle.std.proofs.lemmas.Bool.{cases_lt}
 use Rattle.std.proofs.lemmas.List.{length-take-le, get_or-take, take-take}
-use Rattle.std.specs.Str.{IsUtf8, IsValidUpTo, bytes_eq}
+use Rattle.std.specs.Str.{bytes_eq}
 use Rattle.std.specs.Str.Lines.{lines}
 use Rattle.em_base.specs.declared.images.Image.{Image}
 use Rattle.em_base.specs.declared.images.Wait.{Wait}
@@ -13,7 +13,7 @@ use Rattle.em_asm.specs.Image.{IsRefused as IsUnassembled}
 use Rattle.em_script.specs.Script.{IsRefused as IsScriptRefused}
 use Rattle.em_bundle.specs.Application.{HasHint, HasMessages, HasNoEntry, IsBroken, IsCoded, IsReadable, IsRefused, IsRefusedOf, IsTabled, IsUncoded, IsUnscripted, IsUntabled, script_part}
 use Rattle.em_bundle.specs.Code.{HasNoImage, IsCodeRefused, IsHinted, NamesFault, have_entries, is_hinted, wait_at}
-use Rattle.em_bundle.specs.Parts.{AreFirst, IsCut, IsHeadless, IsMisplaced, IsShort, IsUncut, headers, headers_in, is_header, line_at}
+use Rattle.em_bundle.specs.Parts.{AreFirst, IsCut, IsHeadless, IsMisplaced, IsShort, IsUncut, headers, is_header, line_at}
 use Rattle.em_bundle.proofs.Unique.{Laws, both_ways, broken_or_text, item_at, misplaced, same_code, same_items, same_table, uncoded, uncut, untabled}
 
 same_refusal : (a b : Refusal) → a.code ≡ b.code → a.line ≡ b.line → a ≡ b

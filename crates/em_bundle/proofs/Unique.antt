@@ -25,7 +25,7 @@ use Rattle.em_table.specs.Tests.{fault_of, table_of}
 use Rattle.em_script.specs.Script.{IsScriptOf, IsRefused as IsScriptRefused}
 use Rattle.em_bundle.specs.Application.{IsApplication, IsApplicationOf, IsRefused, IsRefusedOf, IsTabled, IsUntabled, script_part, table_part}
 use Rattle.em_bundle.specs.Code.{AllSay, IsCodeOf, IsCodeRefused, have_entries, is_hinted, wait_at}
-use Rattle.em_bundle.specs.Parts.{AreFirst, IsCut, IsMisplaced, IsShort, IsUncut, headers, headers_in, is_header, line_at, text_of}
+use Rattle.em_bundle.specs.Parts.{AreFirst, IsCut, IsShort, IsUncut, headers, headers_in, is_header, line_at, text_of}
 
 -- what the languages of lines, of images and of scripts keep
 pub record Laws : Type 0 where

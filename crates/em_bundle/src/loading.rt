@@ -1,12 +1,13 @@
 //! The application that the bytes of a bundle stand for.
-ghost use Rattle.std.specs.Prelude.{◌≡◌, ◌<◌, ◌≤◌, ◌^◌, ◌+◌, [], false, true, length, map, IfOk, IfErr, MatchResult};
+ghost use Rattle.std.specs.Prelude.{◌≡◌, ◌⊎◌, ◌<◌, ◌≤◌, ◌^◌, ◌+◌, [], false, true, length, map, IfOk, IfErr, MatchResult};
 ghost use Rattle.em_base.specs.declared.apps.App.{App as Application};
-ghost use Rattle.em_base.specs.declared.refusals.Fail.TheVariants.{NoMemory as OutOfMemory};
+ghost use Rattle.em_base.specs.declared.refusals.Fail.TheVariants.{NoMemory as OutOfMemory, Refused as RefusedBy};
+ghost use Rattle.em_base.specs.declared.refusals.Refusal.{Refusal as Cause};
 ghost use Rattle.std.specs.Str.Lines.{lines};
 ghost use Rattle.em_base.specs.Events.{IsScript};
 ghost use Rattle.em_base.specs.Images.{IsWhole};
 ghost use Rattle.em_base.specs.Tables.{IsTable};
-ghost use Rattle.em_bundle.specs.Application.{IsApplication, IsApplicationOf, IsCoded, IsEventsFail, IsFailOf, IsFailOfLines, IsImageFail, IsScripted, IsTableFail, IsTabled};
+ghost use Rattle.em_bundle.specs.Application.{IsApplication, IsApplicationOf, IsCoded, IsEventsFail, IsFailOf, IsFailOfLines, IsImageFail, IsRefused, IsScripted, IsTableFail, IsTabled};
 ghost use Rattle.em_bundle.specs.Code.{AreUnhinted, have_entries as has_all_entries};
 ghost use Rattle.em_bundle.specs.Parts as spec;
 ghost use Rattle.em_bundle.specs.Parts.{IsCut};
@@ -181,6 +182,7 @@ pub fn load(alloc: Global, bytes: &[u8], replay: bool) -> Result<App, Fail>
     ensures valid { IfOk result IsApp }
     ensures refused { IfErr result (IsFailOf bytes.now) }
     ensures complete { (app : Application) → IsApplication bytes.now app → MatchResult result (λ found. found ≡ app) (λ fail. fail ≡ OutOfMemory) }
+    ensures refuses { (refusal : Cause) → IsRefused bytes.now refusal → MatchResult result (λ _. ⊥) (λ fail. (fail ≡ RefusedBy refusal) ⊎ (fail ≡ OutOfMemory)) }
 {
     let _ = replay;
     one_application();

@@ -44,48 +44,32 @@ fn each_failing_read(rt: HostRuntime) -> Result<(), Fail> {
 #[test]
 fn failing_calls(rt: HostRuntime) -> Result<(), Fail> {
     let alloc = rt.alloc();
-    for (shows, read_fails, write_fails, piece, written, status) in [
+    // The number of the read and of the write that fails, 0 for none, and the most bytes of one write.
+    for (shows, read, write, piece, written, status) in [
         (
             "the first read",
-            [1u64].as_slice(),
-            [].as_slice(),
+            1u64,
+            0u64,
             4096usize,
-            b"error read\n".as_slice(),
+            "error read\n",
             Status::ReadFault,
         ),
-        (
-            "the first write",
-            [].as_slice(),
-            [1u64].as_slice(),
-            4096,
-            b"".as_slice(),
-            Status::WriteFault,
-        ),
+        ("the first write", 0, 1, 4096, "", Status::WriteFault),
         (
             "the third write",
-            [].as_slice(),
-            [3u64].as_slice(),
+            0,
+            3,
             10,
-            b"%trace\nrel 0 1 0 0\no".as_slice(),
+            "%trace\nrel 0 1 0 0\no",
             Status::WriteFault,
         ),
-        (
-            "both at the first",
-            [1u64].as_slice(),
-            [1u64].as_slice(),
-            4096,
-            b"".as_slice(),
-            Status::WriteFault,
-        ),
+        ("both at the first", 1, 1, 4096, "", Status::WriteFault),
     ] {
-        let mut src = source(alloc, ONE_SHOT.as_bytes(), read_fails, 4096)?;
-        let mut out = MemSink::new(alloc, ROOM, Vec::from_slice(alloc, write_fails)?, piece)?;
-        assert_eq!(rt;
-            called(alloc, "run", &mut src, &mut out)?,
-            status,
-            "{shows}"
-        );
-        assert_eq!(rt; out.written(), written, "{shows}");
+        let mut src = source(alloc, ONE_SHOT.as_bytes(), &[read], 4096)?;
+        let mut out = MemSink::new(alloc, ROOM, Vec::from_slice(alloc, &[write])?, piece)?;
+        let found = called(alloc, "run", &mut src, &mut out)?;
+        assert_eq!(rt; found, status, "{shows}");
+        assert_eq!(rt; out.written(), written.as_bytes(), "{shows}");
     }
     Ok(())
 }
