@@ -1,6 +1,5 @@
 -- Bytes have one refusal: each stands where nothing above it is refused, and there is one of each kind.
-use Rattle.std.proofs.Common.{◌≡◌, ◌∙◌, ℕ, ◌+◌, ◌<◌, ◌⊎◌, true, List, [], length, take, get_or, count_by, nat_eq, Option, Some, inl, inr, sym, ap, ap₂, subst, arith}
-use Rattle.std.proofs.lemmas.Bool.{cases_lt}
+use Rattle.std.proofs.Common.{◌≡◌, ◌∙◌, ℕ, ◌+◌, ◌<◌, ◌⊎◌, true, List, [], length, take, get_or, count_by, nat_eq, Option, Some, inl, inr, sym, ap, subst, arith}
 use Rattle.std.proofs.lemmas.List.{length-take-le, get_or-take, take-take}
 use Rattle.std.specs.Str.{bytes_eq}
 use Rattle.std.specs.Str.Lines.{lines}
@@ -14,20 +13,8 @@ use Rattle.em_script.specs.Script.{IsRefused as IsScriptRefused}
 use Rattle.em_bundle.specs.Application.{HasHint, HasMessages, HasNoEntry, IsBroken, IsCoded, IsReadable, IsRefused, IsRefusedOf, IsTabled, IsUncoded, IsUnscripted, IsUntabled, script_part}
 use Rattle.em_bundle.specs.Code.{HasNoImage, IsCodeRefused, IsHinted, NamesFault, have_entries, is_hinted, wait_at}
 use Rattle.em_bundle.specs.Parts.{AreFirst, IsCut, IsHeadless, IsMisplaced, IsShort, IsUncut, headers, is_header, line_at}
+pub use Rattle.em_script.proofs.Unique.{one_place, same_refusal}
 use Rattle.em_bundle.proofs.Unique.{Laws, both_ways, broken_or_text, item_at, misplaced, same_code, same_items, same_table, uncoded, uncut, untabled}
-
-same_refusal : (a b : Refusal) → a.code ≡ b.code → a.line ≡ b.line → a ≡ b
-same_refusal a b e f = ap₂ (λ c l. let r : Refusal = record { code = c; line = l } in r) e f
-
--- where neither of two places is before the other, they are one
-one_place : (i j : ℕ) → (i < j → ⊥) → (j < i → ⊥) → i ≡ j
-one_place i j h k = elim (cases_lt i j) [
-  | inl before ↦ absurd (h before)
-  | inr other ↦ elim (cases_lt j i) [
-    | inl before ↦ absurd (k before)
-    | inr same ↦ omega arith
-  ]
-]
 
 -- two kinds of refusal, of which the later stands only where the first doesn't
 first_or_later : {A B : Refusal → Type 0} → ((a b : Refusal) → A a → A b → a ≡ b) → ((a b : Refusal) → A a → B b → ⊥) → ((a b : Refusal) → B a → B b → a ≡ b)

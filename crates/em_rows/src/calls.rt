@@ -6,7 +6,7 @@ use em_run::{Status, emeralds};
 use std::alloc::{AllocError, Global};
 
 /// A bundle of one task that puts a word to a port and exits.
-pub const ONE_SHOT: &str =
+pub(crate) const ONE_SHOT: &str =
     "%table\nhorizon = 1000\n[[task]]\nname = \"a\"\nentry = \"a\"\nkind = \"timer\"\nperiod = 1000\ndeadline = 1000\ncost = 900\n%code\na: li a7, 4\nli a0, 0\nli a1, 7\necall\nli a7, 8\necall\n%script\n";
 
 /// A task that starts at the label `main`.
@@ -15,21 +15,21 @@ const TASK: &str =
 
 /// The bundle of one task with more keys at the top of its table, each on its line, and with these lines of code. Where there
 /// are no more keys, the code begins at line 11.
-pub fn bundle(alloc: Global, keys: &str, code: &str) -> Result<String, AllocError> {
+pub(crate) fn bundle(alloc: Global, keys: &str, code: &str) -> Result<String, AllocError> {
     format!(in alloc; "%table\nhorizon = 1000\n{keys}{TASK}%code\n{code}%script\n")
 }
 
 /// The bundle of one task that runs these lines of code from the first on, which is line 12.
-pub fn running(alloc: Global, code: &str) -> Result<String, AllocError> {
+pub(crate) fn running(alloc: Global, code: &str) -> Result<String, AllocError> {
     let lines = format!(in alloc; "main:\n{code}")?;
     bundle(alloc, "", lines.as_str())
 }
 
 /// More than any row writes, but for the largest.
-pub const ROOM: usize = 4096;
+pub(crate) const ROOM: usize = 4096;
 
 /// The status of a call with these words, which stand between spaces.
-pub fn called(
+pub(crate) fn called(
     alloc: Global,
     words: &str,
     src: &mut MemSource,
@@ -43,7 +43,7 @@ pub fn called(
 }
 
 /// A source of the bytes that hands over at most `piece` at a time and fails at the calls numbered in `fails`.
-pub fn source(
+pub(crate) fn source(
     alloc: Global,
     bytes: &[u8],
     fails: &[u64],

@@ -1,8 +1,10 @@
 -- What comes where nothing is amiss, and where the bytes alone are.
-use Rattle.std.proofs.Common.{◌≡◌, ◌≢◌, ◌∙◌, ℕ, ◌+◌, ◌<◌, ◌≤◌, ◌⊎◌, Bool, true, false, List, [], ◌++◌, length, Option, Some, None, inl, inr, refl, sym, ap, ap₂, subst, arith, append-nil, length-append}
+use Rattle.std.proofs.Common.{◌≡◌, ◌≢◌, ◌∙◌, ℕ, ◌+◌, ◌<◌, ◌≤◌, ◌⊎◌, Bool, true, false, List, [], ◌++◌, length, Option, Some, None, inl, inr, refl, sym, ap, subst, arith, append-nil, length-append}
 use Rattle.em_base.specs.declared.apps.App.{App}
 use Rattle.em_base.specs.declared.refusals.Refusal.{Refusal}
 use Rattle.em_bundle.specs.Application.{IsApplication, IsRefused}
+use Rattle.em_bundle.proofs.Refusals.{same_refusal}
+use Rattle.em_bundle.proofs.Unique.{both_ways}
 use Rattle.em_io.specs.Bytes.{input_limit, Rose, then_left, IsAtEnd, Took}
 use Rattle.em_run.specs.declared.commands.Command.{Command}
 use Rattle.em_run.specs.declared.commands.Command.TheVariants.{Run, List as ListCode}
@@ -34,9 +36,6 @@ one_command words one other h k = same_text one other (same_some (command_text o
 
 -- ---- bytes aren't both carried out and refused
 
-both_ways : (b : Bool) → b ≡ false → b ≡ true → ⊥
-both_ways b e f = let t : false ≡ true = sym e ∙ f in absurd (cc)
-
 not_both : Laws → (command : Command) (bytes : List ℕ) (app : App) (refusal : Refusal) → IsApplication bytes app → IsCarriedOut command app → IsRefusedBy command bytes refusal → ⊥
 not_both laws command bytes app refusal stands carried (inl h) = laws.either bytes app refusal stands h
 not_both laws command bytes app refusal stands carried (inr h) =
@@ -45,9 +44,6 @@ not_both laws command bytes app refusal stands carried (inr h) =
     both_ways (is_alone app) (ap is_alone (sym same) ∙ h.more) alone
 
 -- ---- bytes are refused once
-
-same_refusal : (a b : Refusal) → a.code ≡ b.code → a.line ≡ b.line → a ≡ b
-same_refusal a b e f = ap₂ (λ c l. let r : Refusal = record { code = c; line = l } in r) e f
 
 one_refusal : Laws → (command : Command) (bytes : List ℕ) (one other : Refusal) → IsRefusedBy command bytes one → IsRefusedBy command bytes other → one ≡ other
 one_refusal laws command bytes one other (inl h) (inl k) = laws.refusal bytes one other h k

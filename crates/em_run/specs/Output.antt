@@ -132,8 +132,8 @@ pub record IsDueForWords (words : List (List ℕ)) (r : Reading) (status : Statu
   pub words_are : IsCommand words command
   pub due : IsDueFor command r status text
 
--- each status, its cause and the text that is due with it. The words are looked at first; where they are no command, or
--- there is no memory to read them, nothing is read. A fault of writing has no text of its own.
+-- each status, its cause and the text that is due with it. The words are looked at first; where they are no command, nothing
+-- is read. Want of memory may come with any words. A fault of writing has no text of its own.
 abbrev pub IsDue : List (List ℕ) → Reading → Status → List ℕ → Type 0
 IsDue words r Done text = IsDueForWords words r Done text
 IsDue words r Usage text = IsNoCommand words × (r.left_after ≡ r.left_before) × (text ≡ codes "error usage\n")
