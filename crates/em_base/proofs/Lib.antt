@@ -1,1 +1,4 @@
 pub mod LineCounts
+pub mod Trimming
+pub mod WrittenNumbers
+pub mod FirstFaults

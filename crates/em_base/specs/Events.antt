@@ -25,8 +25,12 @@ abbrev pub AreInOrder : ℕ → List Timed → Type 0
 AreInOrder least [] = ⊤
 AreInOrder least (event ∷ events) = (least ≤ event.time) × AreInOrder event.time events
 
+-- the times are numbers of 32 bits
+abbrev pub AreEarly : List Timed → Type 0
+AreEarly events = All (λ event. event.time < 2 ^ 32) events
+
 -- the script of a table with these tasks
 pub record IsScript (rows : List TaskRow) (events : List Timed) : Type 0 where
   pub few : length events ≤ most_events
-  pub possible : All (λ event. (event.time < 2 ^ 32) × IsEventAt rows event.time event.event) events
+  pub possible : All (λ event. IsEventAt rows event.time event.event) events
   pub ordered : AreInOrder 0 events

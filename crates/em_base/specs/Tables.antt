@@ -87,8 +87,8 @@ pub record IsTask (semaphores : ℕ) (row : TaskRow) : Type 0 where
 abbrev pub names_of : List TaskRow → List (List ℕ)
 names_of rows = map (λ row. row.name) rows
 
-abbrev pub lines_of : List TaskRow → List ℕ
-lines_of rows = filter_map (λ row. row.line) rows
+abbrev pub interrupt_lines_of : List TaskRow → List ℕ
+interrupt_lines_of rows = filter_map (λ row. row.line) rows
 
 -- how many releases below the horizon the period of a task causes
 abbrev pub releases_of : ℕ → TaskRow → ℕ
@@ -117,7 +117,7 @@ pub record IsTable (table : Table) : Type 0 where
   pub count : IsFrom 1 32 (length table.tasks)
   pub tasks : All (IsTask table.semaphores) table.tasks
   pub names : IsDistinct bytes_eq (names_of table.tasks)
-  pub lines : IsDistinct nat_eq (lines_of table.tasks)
+  pub lines : IsDistinct nat_eq (interrupt_lines_of table.tasks)
   pub message_count : length table.messages ≤ 16
   pub messages : All (IsMessage table.tasks) table.messages
   pub releases : sum_by (releases_of table.horizon) table.tasks ≤ most_releases

@@ -1,4 +1,6 @@
 //! The image of an assembly text: the words that a machine starts from.
+ghost use Rattle.std.specs.Prelude.{◌≡◌};
+ghost use Rattle.em_base.specs.Images as spec;
 
 use crate::list::Items;
 use crate::text::Name;
@@ -25,4 +27,18 @@ pub struct Image {
     pub waits: Items<Wait>,
     /// The labels with their addresses, in the order of their definition, each name once.
     pub labels: Items<(Name, u32)>,
+}
+
+impl Image {
+    /// The address of the label of this name, in bytes; `None` exactly where no label has the name.
+    pub fn address_of(&self, name: &str) -> Option<u32>
+        ensures { result ≡ spec.address_of self.now.labels name.now }
+    {
+        for label in self.labels.as_slice() {
+            if name == label.0.as_str() {
+                return Some(label.1);
+            }
+        }
+        None
+    }
 }

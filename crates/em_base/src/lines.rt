@@ -10,7 +10,7 @@ use std::alloc::Global;
 /// The lines of a text. A line ends by LF, one CR right before the LF is dropped, and the last line may lack its LF;
 /// then a CR at its end stays. The empty text has no line.
 ///
-/// Its only refusal is `NoMemory`. Each line takes a byte at least, so there are no more lines than bytes.
+/// Fails only where memory runs out. Each line takes a byte at least, so there are no more lines than bytes.
 pub fn lines_of(alloc: Global, text: &str) -> Result<Items<Name>, NoMemory>
     ensures lines { IfOk result (λ found. found ≡ lines text.now) }
     ensures few { IfOk result (λ found. length found ≤ length text.now) }

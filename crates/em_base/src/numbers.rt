@@ -26,7 +26,8 @@ pub fn read_number(text: &str) -> Option<i128>
 
 /// What follows the front, where the text begins with it.
 fn without_front<'a>(text: &'a str, front: &str) -> Option<&'a str>
-    ensures { MatchOption result ((rest : List ℕ) → text.entry.now ≢ front.now ++ rest) (λ rest. text.entry.now ≡ front.now ++ rest.now) }
+    ensures { MatchOption result ((rest : List ℕ) → text.entry.now ≢ front.now ++ rest)
+        (λ rest. text.entry.now ≡ front.now ++ rest.now) }
 {
     text.strip_prefix(front)
 }
@@ -42,11 +43,13 @@ fn magnitude(text: &str) -> Option<u128>
     }
 }
 
-/// The number that digits write, where it is below 2^128. A sign is no digit.
-fn digits_number(digits: &str, radix: u32) -> Option<u128>
+/// The number that digits of a radix from 2 to 36 write, where there is a digit and the number is below 2^128. A sign is no
+/// digit.
+pub fn digits_number(digits: &str, radix: u32) -> Option<u128>
     requires least { 2 ≤ radix }
     requires greatest { radix ≤ 36 }
-    ensures { SomeIff result (IsNumeral radix digits.now × (digits_value radix digits.now < 2 ^ 128)) (digits_value radix digits.now) }
+    ensures { let number = digits_value radix digits.now in
+        SomeIff result (IsNumeral radix digits.now × (number < 2 ^ 128)) number }
 {
     if digits.starts_with('+') {
         return None;

@@ -1,4 +1,4 @@
-//! A short text that is kept.
+//! An owned text.
 ghost use Rattle.std.specs.Prelude.{◌≡◌, IfOk};
 ghost use Rattle.std.specs.Str.{IsUtf8};
 
@@ -6,7 +6,7 @@ use crate::memory::NoMemory;
 use std::alloc::Global;
 use std::marker::Model;
 
-/// A text that is kept, as a name or a line. Contracts see it as the list of its bytes.
+/// An owned text, as a name or a line. Contracts see it as the list of its bytes.
 #[derive(Drop)]
 pub struct Name {
     text: String,
@@ -25,7 +25,7 @@ impl Model for Name {
 }
 
 impl Name {
-    /// A copy of the text. Its only refusal is `NoMemory`.
+    /// A copy of the text. Fails only where memory runs out.
     pub fn new(alloc: Global, text: &str) -> Result<Name, NoMemory>
         ensures { IfOk result (λ name. name ≡ text.now) }
     {
@@ -39,5 +39,16 @@ impl Name {
         ensures utf8 { IsUtf8 result.now }
     {
         self.text.as_str()
+    }
+}
+
+impl From<String> for Name {
+    ghost use Rattle.std.specs.Prelude.{◌≡◌};
+    ghost use Rattle.std.specs.String.{string_bytes};
+
+    ghost from_gives = { λ text name. name ≡ string_bytes text };
+
+    fn from(text: String) -> Name {
+        Name { text }
     }
 }
