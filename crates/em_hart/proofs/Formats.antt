@@ -47,6 +47,7 @@ i_bits imm s f d o h k l m n = omega arith
 pub i_funct7 : (g n s f d o : ℕ) → o < 128 → d < 32 → f < 8 → s < 32 → n < 32 → g < 128 → funct7 (i_format (g * 32 + n) s f d o) ≡ g
 i_funct7 g n s f d o h k l m p q = omega arith
 
+-- the amount of a shift
 pub i_shamt : (g n s f d o : ℕ) → o < 128 → d < 32 → f < 8 → s < 32 → n < 32 → g < 128 → shamt (i_format (g * 32 + n) s f d o) ≡ n
 i_shamt g n s f d o h k l m p q = omega arith
 
@@ -70,6 +71,7 @@ twos_complement_below width half (negsuc n) e h k = omega arith
 
 -- ---- immediates
 
+-- format I
 pub i_imm : (n : ℕ) (z : ℤ) (s f d o : ℕ) → o < 128 → d < 32 → f < 8 → s < 32 → n ≡ twos_complement 12 z → IsWithin 2048 z → imm_i (i_format n s f d o) ≡ modulo z
 i_imm n z s f d o h k l m e w =
     ap (sign_extended 12) (i_bits n s f d o h k l m (omega (arith, e, twos_complement_below 12 2048 z refl w (omega arith))) ∙ e) ∙ extended_12 z w
@@ -78,6 +80,7 @@ s_bits : (n t s f o : ℕ) → o < 128 → f < 8 → s < 32 → t < 32 → n < 4
 s_bits n t s f o h k l m p =
     omega (arith, r_funct7 (n / 32 % 128) t s f (n / 1 % 32) o h (omega arith) k l m (omega arith), r_rd (n / 32 % 128) t s f (n / 1 % 32) o h (omega arith))
 
+-- format S
 pub s_imm : (z : ℤ) (t s f o : ℕ) → o < 128 → f < 8 → s < 32 → t < 32 → IsWithin 2048 z → imm_s (s_format (twos_complement 12 z) t s f o) ≡ modulo z
 s_imm z t s f o h k l m w =
     ap (sign_extended 12) (s_bits _ t s f o h k l m (twos_complement_below 12 2048 z refl w (omega arith))) ∙ extended_12 z w
@@ -108,11 +111,13 @@ even_21 : (z : ℤ) → IsWithin 1048576 z → unsigned_abs z % 2 ≡ 0 → twos
 even_21 (pos n) w h = h
 even_21 (negsuc n) w h = omega arith
 
+-- format B
 pub b_imm : (z : ℤ) (t s f o : ℕ) → o < 128 → f < 8 → s < 32 → t < 32 → IsWithin 4096 z → unsigned_abs z % 2 ≡ 0
     → imm_b (b_format (twos_complement 13 z) t s f o) ≡ modulo z
 b_imm z t s f o h k l m w e =
     ap (sign_extended 13) (b_bits _ t s f o h k l m (twos_complement_below 13 4096 z refl w (omega arith)) (even_13 z w e)) ∙ extended_13 z w
 
+-- format U
 pub u_opcode : (n d o : ℕ) → o < 128 → opcode (u_format n d o) ≡ o
 u_opcode n d o h = omega arith
 
@@ -138,6 +143,7 @@ j_bits n d o h k p e =
     let ten : w / 2097152 % 1024 ≡ g / 512 % 1024 = omega (arith, all) in
     omega (arith, top, low, one, ten)
 
+-- format J
 pub j_imm : (z : ℤ) (d o : ℕ) → o < 128 → d < 32 → IsWithin 1048576 z → unsigned_abs z % 2 ≡ 0
     → imm_j (j_format (twos_complement 21 z) d o) ≡ modulo z
 j_imm z d o h k w e =

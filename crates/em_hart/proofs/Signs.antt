@@ -14,9 +14,11 @@ use Rattle.std.proofs.lemmas.Bool.Decides.{nat_tests}
 pub signed_twice : (a : ℕ) → a < 2 ^ 32 → cast_signed w32 (cast_unsigned w32 (cast_signed w32 a)) ≡ cast_signed w32 a
 signed_twice a h = ap (cast_signed w32) (of_z-to_z w32 a h)
 
+-- not below is at least
 pub not_below : (a b : ℕ) → not (nat_lt a b) ≡ nat_le b a
 not_below a b = grind (arith, nat_tests)
 
+-- the same of signed numbers
 pub not_below_signed : (x y : ℤ) → not (int_lt x y) ≡ int_le y x
 not_below_signed (pos a) (pos b) = not_below a b
 not_below_signed (pos a) (negsuc b) = refl

@@ -5,18 +5,18 @@ use Rattle.em_isa.specs.declared.instructions.Instr.{Instr}
 use Rattle.em_isa.specs.declared.instructions.Instr.TheVariants.{Lui, Auipc, Jal, Jalr, Branch, Load, Store, OpImm, Op, Fence, Ecall, Ebreak}
 use Rattle.em_hart.specs.declared.widths.Width.{Width}
 use Rattle.em_hart.specs.declared.widths.Width.TheVariants.{Byte, Half, Word}
-use Rattle.em_hart.specs.Hart.{Registers, Memory, register, with_register, has_bytes, loaded}
+use Rattle.em_hart.specs.Hart.{Registers, Memory, register, has_bytes, window_number}
 use Rattle.em_hart.specs.Widths.{bytes_in}
 use Rattle.em_hart.specs.Effect.{Effect, writes, jumps, jumps_by_register, branches, loads, stores, passes, calls, breaks, sum, difference, is_less_signed, one_if, shifted_left, shifted_right, shifted_right_signed, amount, even}
-use Rattle.em_hart.specs.Instruction.{Outcome, done, is_aligned, misaligned_data, outside_windows}
+use Rattle.em_hart.specs.Instruction.{Outcome, effect_outcome, is_aligned, misaligned_data, outside_windows}
 
 -- a signed number modulo 2^32
 abbrev pub modulo : ℤ → ℕ
 modulo z = cast_unsigned w32 z
 
 -- the value of an OP with this funct3; alt tells sub from add and sra from srl
-unfoldable pub computed : ℕ → Bool → ℕ → ℕ → ℕ
-computed op alt a b =
+unfoldable pub operation_value : ℕ → Bool → ℕ → ℕ → ℕ
+operation_value op alt a b =
     if op == 0 then (if alt then difference a b else sum a b)
     else if op == 1 then shifted_left a (amount b)
     else if op == 2 then one_if (is_less_signed a b)
@@ -27,8 +27,8 @@ computed op alt a b =
     else bit_and a b
 
 -- whether the branch with this funct3 is taken
-unfoldable pub compared : ℕ → ℕ → ℕ → Bool
-compared op a b =
+unfoldable pub branch_condition : ℕ → ℕ → ℕ → Bool
+branch_condition op a b =
     if op == 0 then a == b
     else if op == 1 then not (a == b)
     else if op == 4 then is_less_signed a b
@@ -48,8 +48,8 @@ is_signed op = nat_lt op 2
 unfoldable pub read_of : Memory → Memory → ℕ → ℕ → Result ℕ ℕ
 read_of own shared n address =
     if not (is_aligned n address) then Err misaligned_data
-    else if has_bytes own n address then Ok (loaded own n address)
-    else if has_bytes shared n address then Ok (loaded shared n address)
+    else if has_bytes own n address then Ok (window_number own n address)
+    else if has_bytes shared n address then Ok (window_number shared n address)
     else Err outside_windows
 
 -- the register that is written, and 0 where there is none
@@ -103,24 +103,16 @@ effect_of (Lui rd imm) pc a b = writes (imm * 2 ^ 12)
 effect_of (Auipc rd imm) pc a b = writes (sum pc (imm * 2 ^ 12))
 effect_of (Jal rd offset) pc a b = jumps (sum pc 4) (sum pc (modulo offset))
 effect_of (Jalr rd rs1 imm) pc a b = jumps_by_register (sum pc 4) (even (sum a (modulo imm)))
-effect_of (Branch op rs1 rs2 offset) pc a b = branches (compared op a b) (sum pc (modulo offset))
+effect_of (Branch op rs1 rs2 offset) pc a b = branches (branch_condition op a b) (sum pc (modulo offset))
 effect_of (Load op rd rs1 imm) pc a b = loads (is_signed op) (bytes_in (width_of op)) (sum a (modulo imm))
 effect_of (Store op rs1 rs2 imm) pc a b = stores (bytes_in (width_of op)) (sum a (modulo imm)) b
-effect_of (OpImm op alt rd rs1 imm) pc a b = writes (computed op alt a (modulo imm))
-effect_of (Op op alt rd rs1 rs2) pc a b = writes (computed op alt a b)
+effect_of (OpImm op alt rd rs1 imm) pc a b = writes (operation_value op alt a (modulo imm))
+effect_of (Op op alt rd rs1 rs2) pc a b = writes (operation_value op alt a b)
 effect_of (Fence rd rs1 imm) pc a b = passes
 effect_of Ecall pc a b = calls
 effect_of Ebreak pc a b = breaks
 
--- the registers once an instruction that only calculates has written its destination; another leaves them as they are
-abbrev pub calculated : Instr → Registers → Registers
-calculated (Lui rd imm) registers = with_register registers rd (imm * 2 ^ 12)
-calculated (Auipc rd imm) registers = with_register registers rd (sum registers.pc (imm * 2 ^ 12))
-calculated (OpImm op alt rd rs1 imm) registers = with_register registers rd (computed op alt (register registers rs1) (modulo imm))
-calculated (Op op alt rd rs1 rs2) registers = with_register registers rd (computed op alt (register registers rs1) (register registers rs2))
-calculated _ registers = registers
-
--- what the instruction comes to
+-- the outcome of the instruction
 abbrev pub exec_instr : Instr → Registers → Memory → Memory → Outcome
 exec_instr i registers own shared =
-    done (effect_of i registers.pc (register registers (rs1_of i)) (register registers (rs2_of i))) (rd_of i) registers own shared
+    effect_outcome (effect_of i registers.pc (register registers (rs1_of i)) (register registers (rs2_of i))) (rd_of i) registers own shared

@@ -1,7 +1,7 @@
 -- The fields of an instruction word, as whole numbers.
 -- RISC-V unprivileged manual, RV32I version 2.1, sections 2.2 "Base Instruction Formats" and 2.3 "Immediate Encoding
 -- Variants".
-use Rattle.std.specs.Prelude.{ℕ, ◌+◌, ◌-◌, ◌*◌, ◌/◌, ◌%◌, ◌^◌, nat_lt, if◌then◌else◌}
+use Rattle.std.specs.Prelude.{ℕ, ◌+◌, ◌-◌, ◌*◌, ◌^◌, nat_lt, if◌then◌else◌}
 -- `bits high low word` is what the manual writes as inst[high:low]
 pub use Rattle.em_isa.specs.Encoding.{bits}
 

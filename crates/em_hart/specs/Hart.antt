@@ -13,6 +13,13 @@ pub record Memory : Type 0 where
   pub base : ℕ
   pub bytes : List ℕ
 
+-- the address where the own window of a task begins, and that where the shared window begins
+abbrev pub own_base : ℕ
+own_base = 0x10000000
+
+abbrev pub shared_base : ℕ
+shared_base = 0x20000000
+
 -- ---- registers
 
 -- what register r holds: x0 reads as zero (2.1)
@@ -32,9 +39,9 @@ with_pc registers pc = record registers { pc = pc }
 -- bytes to the environment: this is this project's own choice
 
 -- the number that bytes stand for
-abbrev pub number_of : List ℕ → ℕ
-number_of [] = 0
-number_of (byte ∷ rest) = byte + 256 * number_of rest
+abbrev pub number_of_bytes : List ℕ → ℕ
+number_of_bytes [] = 0
+number_of_bytes (byte ∷ rest) = byte + 256 * number_of_bytes rest
 
 -- the n lowest bytes of a number
 abbrev pub bytes_of : ℕ → ℕ → List ℕ
@@ -42,8 +49,8 @@ bytes_of zero number = []
 bytes_of (suc n) number = number % 256 ∷ bytes_of n (number / 256)
 
 -- the number that stands in n bytes from a place on
-abbrev pub number_at : List ℕ → ℕ → ℕ → ℕ
-number_at bytes n place = number_of (take n (drop place bytes))
+abbrev pub number_in_bytes : List ℕ → ℕ → ℕ → ℕ
+number_in_bytes bytes n place = number_of_bytes (take n (drop place bytes))
 
 -- the bytes with a number put into n of them from a place on
 abbrev pub with_number : List ℕ → ℕ → ℕ → ℕ → List ℕ
@@ -57,10 +64,10 @@ has_bytes memory n address =
     nat_le memory.base address && nat_le (address + n) (memory.base + length memory.bytes)
 
 -- the number in the n bytes from an address on
-abbrev pub loaded : Memory → ℕ → ℕ → ℕ
-loaded memory n address = number_at memory.bytes n (address - memory.base)
+abbrev pub window_number : Memory → ℕ → ℕ → ℕ
+window_number memory n address = number_in_bytes memory.bytes n (address - memory.base)
 
 -- the window after a number was stored in the n bytes from an address on
-abbrev pub stored : Memory → ℕ → ℕ → ℕ → Memory
-stored memory n address number =
+abbrev pub after_store : Memory → ℕ → ℕ → ℕ → Memory
+after_store memory n address number =
     record memory { bytes = with_number memory.bytes n (address - memory.base) number }

@@ -2,12 +2,12 @@
 ghost use Rattle.std.specs.Prelude.{◌≡◌, ◌*◌, ◌^◌, ◌<◌, length, IfOk};
 ghost use Rattle.em_hart.specs.Widths.{bytes_in};
 ghost use Rattle.em_hart.specs.Effect.{loads, stores};
-ghost use Rattle.em_hart.specs.Instruction.{done, extended};
-ghost use Rattle.em_hart.specs.Decoded.{is_signed, read_of, width_of};
+ghost use Rattle.em_hart.specs.Instruction.{effect_outcome, load_value};
+ghost use Rattle.em_hart.specs.Decoded as spec;
 ghost use Rattle.em_hart.specs.Steps.{Reports};
 
 use crate::answers::{Class, MISALIGNED_DATA, OUTSIDE_WINDOWS, Stepped};
-use crate::moves::{passed, wrote};
+use crate::moves::{go_on, write_and_go_on};
 use crate::registers::Regs;
 use crate::widths::Width;
 use crate::windows::Window;
@@ -15,7 +15,7 @@ use crate::windows::Window;
 /// How much the load or store with this funct3 touches.
 #[tactic(auto, unfolding(crate::specs::Decoded::width_of))]
 fn width_of(op: u8) -> Width
-    ensures { result ≡ width_of op }
+    ensures { result ≡ spec.width_of op }
 {
     match op % 4 {
         0 => Width::Byte,
@@ -27,7 +27,7 @@ fn width_of(op: u8) -> Width
 /// The number that stands at an address, in the own window or else in the shared one; or the cause of the fault.
 #[tactic(auto, unfolding(crate::specs::Decoded::read_of))]
 fn read(own: &Window, shared: &Window, width: Width, address: u32) -> Result<u32, u8>
-    ensures number { result ≡ read_of own.now shared.now (bytes_in width) address }
+    ensures number { result ≡ spec.read_of own.now shared.now (bytes_in width) address }
     ensures small { IfOk result (λ number. number < 2 ^ (8 * bytes_in width)) }
 {
     if !width.is_aligned(address) {
@@ -43,9 +43,9 @@ fn read(own: &Window, shared: &Window, width: Width, address: u32) -> Result<u32
 }
 
 /// What the load with this funct3 gives for a number that was read.
-fn extended(op: u8, width: Width, number: u32) -> u32
+fn read_value(op: u8, width: Width, number: u32) -> u32
     requires { number < 2 ^ (8 * bytes_in width) }
-    ensures { result ≡ extended (is_signed op) (bytes_in width) number }
+    ensures { result ≡ load_value (spec.is_signed op) (bytes_in width) number }
 {
     if op < 2 {
         width.sign_extended(number)
@@ -64,14 +64,15 @@ pub(crate) fn load(
     shared: &Window,
 ) -> Stepped
     requires { rd < 32 }
-    ensures { Reports result (done (loads (is_signed op) (bytes_in (width_of op)) address) rd regs.old own.now shared.now)
+    ensures { let effect = loads (spec.is_signed op) (bytes_in (spec.width_of op)) address in
+        Reports result (effect_outcome effect rd regs.old own.now shared.now)
         regs.old own.now shared.now regs.new own.now shared.now }
 {
     let width = width_of(op);
     match read(own, shared, width, address) {
         Ok(number) => {
-            let value = extended(op, width, number);
-            wrote(regs, rd, value, Class::Memory)
+            let value = read_value(op, width, number);
+            write_and_go_on(regs, rd, value, Class::Memory)
         }
         Err(cause) => Stepped::Fault(cause),
     }
@@ -86,7 +87,8 @@ pub(crate) fn store(
     own: &mut Window,
     shared: &mut Window,
 ) -> Stepped
-    ensures step { Reports result (done (stores (bytes_in (width_of op)) address number) 0 regs.old own.old shared.old)
+    ensures step { let effect = stores (bytes_in (spec.width_of op)) address number in
+        Reports result (effect_outcome effect 0 regs.old own.old shared.old)
         regs.old own.old shared.old regs.new own.new shared.new }
     ensures own_base { own.new.base ≡ own.old.base }
     ensures own_length { length own.new.bytes ≡ length own.old.bytes }
@@ -99,11 +101,11 @@ pub(crate) fn store(
     }
     if let Some(place) = own.place(width, address) {
         own.put(width, place, number);
-        return passed(regs, Class::Memory);
+        return go_on(regs, Class::Memory);
     }
     if let Some(place) = shared.place(width, address) {
         shared.put(width, place, number);
-        return passed(regs, Class::Memory);
+        return go_on(regs, Class::Memory);
     }
     Stepped::Fault(OUTSIDE_WINDOWS)
 }

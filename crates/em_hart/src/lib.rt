@@ -3,6 +3,7 @@
 
 mod accesses;
 pub mod answers;
+pub mod laws;
 mod moves;
 pub mod operations;
 pub mod registers;
@@ -16,7 +17,8 @@ pub use answers::{
     BREAKPOINT, Class, MISALIGNED_DATA, MISALIGNED_TARGET, NO_INSTRUCTION, OUTSIDE_CODE,
     OUTSIDE_WINDOWS, Stepped,
 };
+pub use laws::carries_out;
 pub use operations::value;
 pub use registers::Regs;
 pub use stepping::step;
-pub use windows::Window;
+pub use windows::{OWN_BASE, SHARED_BASE, Window};

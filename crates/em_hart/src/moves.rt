@@ -2,16 +2,16 @@
 ghost use Rattle.std.specs.Prelude.{◌≡◌, ◌<◌};
 ghost use Rattle.em_hart.specs.Hart.{Memory, with_register};
 ghost use Rattle.em_hart.specs.Effect.{sum};
-ghost use Rattle.em_hart.specs.Instruction.{gone_on, taken};
+ghost use Rattle.em_hart.specs.Instruction.{next_registers, transfer_outcome};
 ghost use Rattle.em_hart.specs.Steps.{Reports};
 
 use crate::answers::{Class, MISALIGNED_TARGET, Stepped};
 use crate::registers::Regs;
 
 /// Goes on with the instruction that follows.
-pub(crate) fn passed(regs: &mut Regs, class: Class) -> Stepped
+pub(crate) fn go_on(regs: &mut Regs, class: Class) -> Stepped
     ensures answer { result ≡ Stepped.Ran class }
-    ensures whole { regs.new ≡ gone_on regs.old }
+    ensures whole { regs.new ≡ next_registers regs.old }
 {
     let next = regs.pc().wrapping_add(4);
     regs.jump(next);
@@ -19,19 +19,20 @@ pub(crate) fn passed(regs: &mut Regs, class: Class) -> Stepped
 }
 
 /// Writes the destination, and goes on with the instruction that follows.
-pub(crate) fn wrote(regs: &mut Regs, rd: u8, v: u32, class: Class) -> Stepped
+pub(crate) fn write_and_go_on(regs: &mut Regs, rd: u8, v: u32, class: Class) -> Stepped
     requires { rd < 32 }
     ensures answer { result ≡ Stepped.Ran class }
-    ensures whole { regs.new ≡ gone_on (with_register regs.old rd v) }
+    ensures whole { regs.new ≡ next_registers (with_register regs.old rd v) }
 {
     regs.set(rd, v);
-    passed(regs, class)
+    go_on(regs, class)
 }
 
 /// Takes a transfer.
-pub(crate) fn transferred(regs: &mut Regs, target: u32) -> Stepped
+pub(crate) fn transfer(regs: &mut Regs, target: u32) -> Stepped
     ensures { (own shared : Memory)
-        → Reports result (taken target regs.old own shared) regs.old own shared regs.new own shared }
+        → Reports result (transfer_outcome target regs.old own shared)
+        regs.old own shared regs.new own shared }
 {
     if target % 4 != 0 {
         return Stepped::Fault(MISALIGNED_TARGET);
@@ -41,10 +42,12 @@ pub(crate) fn transferred(regs: &mut Regs, target: u32) -> Stepped
 }
 
 /// Takes a transfer, and keeps the address of the instruction that follows in the destination.
-pub(crate) fn linked(regs: &mut Regs, rd: u8, target: u32) -> Stepped
+pub(crate) fn jump_and_link(regs: &mut Regs, rd: u8, target: u32) -> Stepped
     requires { rd < 32 }
     ensures { (own shared : Memory)
-        → Reports result (taken target (with_register regs.old rd (sum regs.old.pc 4)) own shared) regs.old own shared regs.new own shared }
+        → let linked = with_register regs.old rd (sum regs.old.pc 4) in
+        Reports result (transfer_outcome target linked own shared)
+        regs.old own shared regs.new own shared }
 {
     if target % 4 != 0 {
         return Stepped::Fault(MISALIGNED_TARGET);

@@ -38,7 +38,7 @@ impl Regs {
         requires { r < 32 }
         ensures { result ≡ register self.now r }
     {
-        self.values[r as usize]
+        self.values[usize::from(r)]
     }
 
     /// Puts a value into register `r`, which is below 32. A value for x0 is dropped.
@@ -50,7 +50,7 @@ impl Regs {
         ensures pc { self.new.pc ≡ self.old.pc }
     {
         if r != 0 {
-            self.values[r as usize] = v;
+            self.values[usize::from(r)] = v;
         }
     }
 

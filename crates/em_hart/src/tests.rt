@@ -1,8 +1,9 @@
 //! Words and what they come to, by hand from the manual.
 
 ghost use Rattle.std.specs.Prelude.{◌≡◌, length, IfOk};
+ghost use Rattle.em_hart.specs.Hart.{own_base, shared_base};
 
-use crate::{Class, Regs, Stepped, Window, step, value};
+use crate::{Class, OWN_BASE, Regs, SHARED_BASE, Stepped, Window, step, value};
 use em_base::NoMemory;
 use em_isa::decode;
 use std::alloc::Global;
@@ -194,7 +195,7 @@ const VALUES: [(&str, u32, u32, u32, u32, Option<u32>); 8] = [
     ("lw x3, 8(x1)", 0x0080_a183, 8, 0x1000_0000, 0, None),
 ];
 
-/// A word among the 2,048 words of a code that has `nop` elsewhere, what stands before it, and what it comes to.
+/// A word among the 2,048 words of a code that has `nop` elsewhere, what stands before it, and what stands after it.
 #[derive(Clone, Copy)]
 struct Case {
     text: &'static str,
@@ -209,19 +210,19 @@ struct Case {
 
 /// A machine with these registers and x3 = 0x33, and its two windows.
 fn machine(alloc: Global, pc: u32, x1: u32, x2: u32) -> Result<(Regs, Window, Window), NoMemory>
-    ensures { IfOk result (λ m. (m.1.base ≡ 0x10000000) × (length m.1.bytes ≡ 12)
-        × (m.2.base ≡ 0x20000000) × (length m.2.bytes ≡ 4)) }
+    ensures { IfOk result (λ m. (m.1.base ≡ own_base) × (length m.1.bytes ≡ 12)
+        × (m.2.base ≡ shared_base) × (length m.2.bytes ≡ 4)) }
 {
     let mut regs = Regs::new(pc);
     regs.set(1, x1);
     regs.set(2, x2);
     regs.set(3, 0x33);
-    let own = Window::new(alloc, 0x1000_0000, &OWN, 12)?;
-    let shared = Window::new(alloc, 0x2000_0000, &SHARED, 4)?;
+    let own = Window::new(alloc, OWN_BASE, &OWN, 12)?;
+    let shared = Window::new(alloc, SHARED_BASE, &SHARED, 4)?;
     Ok((regs, own, shared))
 }
 
-/// The word comes to the answer, x3 and the pc, and changes no window.
+/// After the word there are the answer, x3 and the pc, and no window has changed.
 fn expect(rt: &impl Abort, alloc: Global, case: &Case) -> Result<(), Fail> {
     let text = case.text;
     let (mut regs, mut own, mut shared) = machine(alloc, case.pc, case.x1, case.x2)?;

@@ -1,6 +1,6 @@
 //! How much of memory a load or a store touches.
 ghost use Rattle.std.specs.Prelude.{◌≡◌, ◌*◌, ◌%◌, ◌^◌, ◌<◌, ◌==◌};
-ghost use Rattle.em_hart.specs.Fields.{sign_extended};
+ghost use Rattle.em_hart.specs.Fields as spec;
 ghost use Rattle.em_hart.specs.Widths.{bytes_in};
 
 /// How much of memory an access touches.
@@ -40,7 +40,7 @@ impl Width {
     /// A number of this width with its sign bit copied into all bits above it.
     pub(crate) fn sign_extended(self, number: u32) -> u32
         requires { number < 2 ^ (8 * bytes_in self) }
-        ensures { result ≡ sign_extended (8 * bytes_in self) number }
+        ensures { result ≡ spec.sign_extended (8 * bytes_in self) number }
     {
         match self {
             Width::Byte if number >= 0x80 => number + 0xffff_ff00,

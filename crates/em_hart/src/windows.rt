@@ -1,13 +1,20 @@
 //! A window of memory: bytes from an address on.
-ghost use Rattle.std.specs.Prelude.{◌≡◌, ◌≢◌, ℕ, ◌+◌, ◌-◌, ◌*◌, ◌/◌, ◌%◌, ◌^◌, ◌<◌, ◌≤◌, ◌++◌, replicate, IsTrue, IsFalse, IfSome, IfNone, IfOk, length as len, vec_len};
+ghost use Rattle.std.specs.Prelude.{◌≡◌, ◌≢◌, ℕ, ◌+◌, ◌-◌, ◌*◌, ◌/◌, ◌%◌, ◌^◌, ◌<◌, ◌≤◌, ◌++◌};
+ghost use Rattle.std.specs.Prelude.{length, replicate, vec_len, IsTrue, IsFalse, IfSome, IfNone, IfOk};
 ghost use Rattle.std.specs.List.{flat_map};
-ghost use Rattle.em_hart.specs.Hart.{bytes_of, number_at, with_number, has_bytes};
+ghost use Rattle.em_hart.specs.Hart.{bytes_of, number_in_bytes, with_number, has_bytes};
 ghost use Rattle.em_hart.specs.Widths.{bytes_in};
 
 use crate::widths::Width;
 use em_base::NoMemory;
 use std::alloc::{AllocError, Global};
 use std::marker::Model;
+
+/// The address where the own window of a task begins.
+pub const OWN_BASE: u32 = 0x1000_0000;
+
+/// The address where the shared window begins.
+pub const SHARED_BASE: u32 = 0x2000_0000;
 
 /// A window of memory, of at most 65,536 bytes. Contracts see it as the address where it begins and the list of its
 /// bytes. Numbers stand in it little-endian.
@@ -28,25 +35,26 @@ impl Model for Window {
     ghost invariant = { λ a. length a.bytes.items ≤ 65536 };
 }
 
-/// The bytes of the words, one word after the other, and then zeros up to the length.
-fn filled(alloc: Global, first: &[u32], length: u32) -> Result<Vec<u8>, AllocError>
-    requires { 4 * len first.now ≤ length }
-    ensures items { IfOk result (λ v. v.items ≡ flat_map (bytes_of 4) first.now ++ replicate (length - 4 * len first.now) 0) }
-    ensures length { IfOk result (λ v. vec_len v ≡ length) }
+/// The bytes of the words, one word after the other, and then zeros up to the size.
+fn window_bytes(alloc: Global, first: &[u32], size: u32) -> Result<Vec<u8>, AllocError>
+    requires { 4 * length first.now ≤ size }
+    ensures items { IfOk result (λ v. v.items
+        ≡ flat_map (bytes_of 4) first.now ++ replicate (size - 4 * length first.now) 0) }
+    ensures length { IfOk result (λ v. vec_len v ≡ size) }
 {
-    let mut bytes = Vec::with_capacity(alloc, length as usize)?;
+    let mut bytes = Vec::with_capacity(alloc, size as usize)?;
     for word in first {
         bytes.extend_from_slice(&word.to_le_bytes())?;
     }
-    bytes.resize(length as usize, 0)?;
+    bytes.resize(size as usize, 0)?;
     Ok(bytes)
 }
 
 /// Puts the lowest bytes of a number at a place of the bytes.
 fn put_number(bytes: &mut [u8], width: Width, place: usize, number: u32)
-    requires { place + bytes_in width ≤ len bytes.old }
+    requires { place + bytes_in width ≤ length bytes.old }
     ensures whole { bytes.new ≡ with_number bytes.old (bytes_in width) place number }
-    ensures length { len bytes.new ≡ len bytes.old }
+    ensures length { length bytes.new ≡ length bytes.old }
 {
     let [b0, b1, b2, b3] = number.to_le_bytes();
     match width {
@@ -65,25 +73,25 @@ fn put_number(bytes: &mut [u8], width: Width, place: usize, number: u32)
 }
 
 impl Window {
-    /// A window of `length` bytes from the address `base` on. It begins with the words of `first`, and the rest is zero.
-    /// `length` is a multiple of 4, at most 65,536, and at least four times the number of words. Its only refusal is
+    /// A window of `size` bytes from the address `base` on. It begins with the words of `first`, and the rest is zero.
+    /// `size` is a multiple of 4, at most 65,536, and at least four times the number of words. Its only refusal is
     /// `NoMemory`.
-    pub fn new(alloc: Global, base: u32, first: &[u32], length: u32) -> Result<Window, NoMemory>
-        requires whole { length % 4 ≡ 0 }
-        requires limit { length ≤ 65536 }
-        requires room { 4 * len first.now ≤ length }
+    pub fn new(alloc: Global, base: u32, first: &[u32], size: u32) -> Result<Window, NoMemory>
+        requires whole { size % 4 ≡ 0 }
+        requires limit { size ≤ 65536 }
+        requires room { 4 * length first.now ≤ size }
         ensures { IfOk result (λ window. window ≡ record {
           base = base;
-          bytes = flat_map (bytes_of 4) first.now ++ replicate (length - 4 * len first.now) 0;
+          bytes = flat_map (bytes_of 4) first.now ++ replicate (size - 4 * length first.now) 0;
         }) }
     {
-        let bytes = filled(alloc, first, length)?;
+        let bytes = window_bytes(alloc, first, size)?;
         Ok(Window { base, bytes })
     }
 
     /// The number of its bytes.
     pub fn length(&self) -> u32
-        ensures length { result ≡ len self.now.bytes }
+        ensures length { result ≡ length self.now.bytes }
         ensures limit { result ≤ 65536 }
     {
         self.bytes.len() as u32
@@ -91,32 +99,34 @@ impl Window {
 
     /// The word `i` of the window, counted from 0; `i` is below a quarter of the length.
     pub fn word_at(&self, i: u32) -> u32
-        requires { i < len self.now.bytes / 4 }
-        ensures { result ≡ number_at self.now.bytes 4 (4 * i) }
+        requires { i < length self.now.bytes / 4 }
+        ensures { result ≡ number_in_bytes self.now.bytes 4 (4 * i) }
     {
         self.number(Width::Word, i as usize * 4)
     }
 
     /// Puts a word in place of the word `i`, counted from 0; `i` is below a quarter of the length.
     pub fn set_word(&mut self, i: u32, w: u32)
-        requires { i < len self.old.bytes / 4 }
-        ensures whole { self.new ≡ record self.old { bytes = with_number self.old.bytes 4 (4 * i) w } }
+        requires { i < length self.old.bytes / 4 }
+        ensures whole { let bytes = with_number self.old.bytes 4 (4 * i) w in
+            self.new ≡ record self.old { bytes = bytes } }
 
         // The same, word by word.
-        ensures written { number_at self.new.bytes 4 (4 * i) ≡ w }
+        ensures written { number_in_bytes self.new.bytes 4 (4 * i) ≡ w }
         ensures others { (j : ℕ) → j ≢ i
-            → number_at self.new.bytes 4 (4 * j) ≡ number_at self.old.bytes 4 (4 * j) }
+            → number_in_bytes self.new.bytes 4 (4 * j) ≡ number_in_bytes self.old.bytes 4 (4 * j) }
         ensures base { self.new.base ≡ self.old.base }
-        ensures length { len self.new.bytes ≡ len self.old.bytes }
+        ensures length { length self.new.bytes ≡ length self.old.bytes }
     {
         self.put(Width::Word, i as usize * 4, w);
     }
 
     /// Where in the window the bytes of an access at an address stand; `None` exactly where they are not wholly inside.
     pub(crate) fn place(&self, width: Width, address: u32) -> Option<usize>
-        ensures found { IfSome result (λ place. IsTrue (has_bytes self.now (bytes_in width) address)) }
+        ensures found { IfSome result (λ place.
+            IsTrue (has_bytes self.now (bytes_in width) address)) }
         ensures value { IfSome result (λ place. place ≡ address - self.now.base) }
-        ensures within { IfSome result (λ place. place + bytes_in width ≤ len self.now.bytes) }
+        ensures within { IfSome result (λ place. place + bytes_in width ≤ length self.now.bytes) }
         ensures outside { IfNone result (IsFalse (has_bytes self.now (bytes_in width) address)) }
     {
         let place = address.checked_sub(self.base)? as usize;
@@ -129,8 +139,8 @@ impl Window {
 
     /// The number that stands at a place, without a sign.
     pub(crate) fn number(&self, width: Width, place: usize) -> u32
-        requires { place + bytes_in width ≤ len self.now.bytes }
-        ensures number { result ≡ number_at self.now.bytes (bytes_in width) place }
+        requires { place + bytes_in width ≤ length self.now.bytes }
+        ensures number { result ≡ number_in_bytes self.now.bytes (bytes_in width) place }
         ensures small { result < 2 ^ (8 * bytes_in width) }
     {
         let bytes = self.bytes.as_slice();
@@ -148,11 +158,11 @@ impl Window {
 
     /// Puts the lowest bytes of a number at a place.
     pub(crate) fn put(&mut self, width: Width, place: usize, number: u32)
-        requires { place + bytes_in width ≤ len self.old.bytes }
+        requires { place + bytes_in width ≤ length self.old.bytes }
         ensures whole { self.new
             ≡ record self.old { bytes = with_number self.old.bytes (bytes_in width) place number } }
         ensures base { self.new.base ≡ self.old.base }
-        ensures length { len self.new.bytes ≡ len self.old.bytes }
+        ensures length { length self.new.bytes ≡ length self.old.bytes }
     {
         put_number(self.bytes.as_mut_slice(), width, place, number);
     }

@@ -5,9 +5,13 @@ use Rattle.std.specs.Prelude.{◌≡◌, ℕ, ◌+◌, ◌-◌, ◌^◌, ◌≤�
 abbrev pub input_limit : ℕ
 input_limit = 16777216
 
+-- a count that went up by one, but stands still at its last value: this project's own
+abbrev pub next_count : ℕ → ℕ
+next_count n = min (n + 1) (2 ^ 64 - 1)
+
 -- a count of faults rose, or stands at its last value: this project's own
 abbrev pub Rose : ℕ → ℕ → Type 0
-Rose before now = min (before + 1) (2 ^ 64 - 1) ≤ now
+Rose before now = next_count before ≤ now
 
 -- what was left before these bytes were taken, where what is left now is told: this project's own
 abbrev pub then_left : List ℕ → Option (List ℕ) → Option (List ℕ)

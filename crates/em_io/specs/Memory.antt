@@ -1,5 +1,5 @@
 -- A source and a sink in memory, as contracts see them: this project's own.
-use Rattle.std.specs.Prelude.{ℕ, ◌+◌, ◌-◌, ◌^◌, min, List, length}
+use Rattle.std.specs.Prelude.{ℕ, ◌-◌, min, List, length}
 
 -- what a source in memory is: the bytes that are left, and how its calls go
 pub record Supply : Type 0 where
@@ -24,10 +24,6 @@ pub record Store : Type 0 where
   -- how many calls there were, and how many of them failed
   pub calls : ℕ
   pub faults : ℕ
-
--- a count that went up by one, but stands still at its last value: this project's own
-abbrev pub next_count : ℕ → ℕ
-next_count n = min (n + 1) (2 ^ 64 - 1)
 
 -- how many bytes a call hands over that has room for this many: this project's own
 abbrev pub read_size : Supply → ℕ → ℕ

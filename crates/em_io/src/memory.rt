@@ -1,7 +1,7 @@
 //! A source and a sink in memory, which move a few bytes at a time and fail at the calls that they are told to fail at.
 ghost use Rattle.std.specs.Prelude.{◌≡◌, ◌+◌, ◌-◌, ◌<◌, ◌≤◌, ◌↔◌, ◌⊎◌, [], ◌++◌, length, take, drop, Some, IfOk, OnOk, OnErr, IsErr, Contains};
-ghost use Rattle.em_io.specs.Bytes.{Rose, then_left, and_then, IsAtEnd};
-ghost use Rattle.em_io.specs.Memory.{next_count, read_size, write_size};
+ghost use Rattle.em_io.specs.Bytes.{Rose, then_left, and_then, IsAtEnd, next_count};
+ghost use Rattle.em_io.specs.Memory.{read_size, write_size};
 
 use crate::sinks::Sink;
 use crate::sources::{Failed, Source};
@@ -27,7 +27,13 @@ impl Model for MemSource {
 
     ghost Value = { Supply };
 
-    ghost view = { λ s. record { left = drop s.at s.bytes.items; fails = s.fails.items; piece = s.piece; calls = s.calls; faults = s.faults } };
+    ghost view = { λ s. record {
+      left = drop s.at s.bytes.items;
+      fails = s.fails.items;
+      piece = s.piece;
+      calls = s.calls;
+      faults = s.faults;
+    } };
 
     ghost invariant = { λ s. (s.at ≤ length s.bytes.items) × (1 ≤ s.piece) };
 }
@@ -37,7 +43,13 @@ impl MemSource {
     /// `fails`, counted from 1, fail.
     pub fn new(bytes: Vec<u8>, fails: Vec<u64>, piece: usize) -> MemSource
         requires { 1 ≤ piece }
-        ensures { result ≡ record { left = bytes.items; fails = fails.items; piece = piece; calls = 0; faults = 0 } }
+        ensures { result ≡ record {
+          left = bytes.items;
+          fails = fails.items;
+          piece = piece;
+          calls = 0;
+          faults = 0;
+        } }
     {
         MemSource {
             bytes,
@@ -67,7 +79,8 @@ impl Source for MemSource {
     fn read(&mut self, buf: &mut [u8]) -> Result<usize, Failed>
         ensures count { IfOk result (λ k. k ≤ length buf.old) }
         ensures len { length buf.new ≡ length buf.old }
-        ensures gives { IfOk result (λ k. Some self.old.left ≡ then_left (take k buf.new) (Some self.new.left)) }
+        ensures gives { IfOk result (λ k. Some self.old.left
+            ≡ then_left (take k buf.new) (Some self.new.left)) }
         ensures end { IfOk result (λ k. k ≡ 0 → 0 < length buf.old → IsAtEnd (Some self.new.left)) }
         ensures unread { OnErr result (Some self.new.left ≡ Some self.old.left) }
         ensures cause { OnErr result (Rose self.old.faults self.new.faults) }
@@ -77,9 +90,15 @@ impl Source for MemSource {
         ensures fails { IsErr result ↔ Contains self.old.fails (next_count self.old.calls) }
         ensures amount { IfOk result (λ k. k ≡ read_size self.old (length buf.old)) }
         ensures front { IfOk result (λ k. buf.new ≡ take k self.old.left ++ drop k buf.old) }
-        ensures read { IfOk result (λ k. self.new ≡ record self.old { left = drop k self.old.left; calls = next_count self.old.calls }) }
+        ensures read { IfOk result (λ k. self.new ≡ record self.old {
+          left = drop k self.old.left;
+          calls = next_count self.old.calls;
+        }) }
         ensures untouched { OnErr result (buf.new ≡ buf.old) }
-        ensures failed { OnErr result (self.new ≡ record self.old { calls = next_count self.old.calls; faults = next_count self.old.faults }) }
+        ensures failed { OnErr result (self.new ≡ record self.old {
+          calls = next_count self.old.calls;
+          faults = next_count self.old.faults;
+        }) }
     {
         self.calls = self.calls.saturating_add(1);
         if self.fails.contains(&self.calls) {
@@ -112,10 +131,18 @@ impl Model for MemSink {
 
     ghost Value = { Store };
 
-    ghost view = { λ s. record { written = s.bytes.items; room = s.room; fails = s.fails.items; piece = s.piece; calls = s.calls; faults = s.faults } };
+    ghost view = { λ s. record {
+      written = s.bytes.items;
+      room = s.room;
+      fails = s.fails.items;
+      piece = s.piece;
+      calls = s.calls;
+      faults = s.faults;
+    } };
 
     // The room was reserved, so that a write takes no memory.
-    ghost invariant = { λ s. (length s.bytes.items ≤ s.room) × (s.room ≤ vec_capacity s.bytes) × (1 ≤ s.piece) };
+    ghost invariant = { λ s. (length s.bytes.items ≤ s.room) × (s.room ≤ vec_capacity s.bytes)
+        × (1 ≤ s.piece) };
 }
 
 impl MemSink {
@@ -129,7 +156,14 @@ impl MemSink {
         piece: usize,
     ) -> Result<MemSink, NoMemory>
         requires { 1 ≤ piece }
-        ensures { IfOk result (λ sink. sink ≡ record { written = []; room = room; fails = fails.items; piece = piece; calls = 0; faults = 0 }) }
+        ensures { IfOk result (λ sink. sink ≡ record {
+          written = [];
+          room = room;
+          fails = fails.items;
+          piece = piece;
+          calls = 0;
+          faults = 0;
+        }) }
     {
         let bytes = Vec::with_capacity(alloc, room)?;
         Ok(MemSink {
@@ -168,16 +202,24 @@ impl Sink for MemSink {
     fn write(&mut self, bytes: &[u8]) -> Result<usize, Failed>
         ensures count { IfOk result (λ k. k ≤ length bytes.now) }
         ensures some { IfOk result (λ k. 0 < length bytes.now → 0 < k) }
-        ensures takes { IfOk result (λ k. Some self.new.written ≡ and_then (Some self.old.written) (take k bytes.now)) }
+        ensures takes { IfOk result (λ k. Some self.new.written
+            ≡ and_then (Some self.old.written) (take k bytes.now)) }
         ensures unwritten { OnErr result (Some self.new.written ≡ Some self.old.written) }
         ensures cause { OnErr result (Rose self.old.faults self.new.faults) }
         ensures grows { self.old.faults ≤ self.new.faults }
 
         // The same exactly: when it fails, how many bytes it takes, and what it leaves.
-        ensures fails { IsErr result ↔ (Contains self.old.fails (next_count self.old.calls) ⊎ ((self.old.room ≤ length self.old.written) × (0 < length bytes.now))) }
+        ensures fails { IsErr result ↔ (Contains self.old.fails (next_count self.old.calls)
+            ⊎ ((self.old.room ≤ length self.old.written) × (0 < length bytes.now))) }
         ensures amount { IfOk result (λ k. k ≡ write_size self.old (length bytes.now)) }
-        ensures wrote { IfOk result (λ k. self.new ≡ record self.old { written = self.old.written ++ take k bytes.now; calls = next_count self.old.calls }) }
-        ensures failed { OnErr result (self.new ≡ record self.old { calls = next_count self.old.calls; faults = next_count self.old.faults }) }
+        ensures appended { IfOk result (λ k. self.new ≡ record self.old {
+          written = self.old.written ++ take k bytes.now;
+          calls = next_count self.old.calls;
+        }) }
+        ensures failed { OnErr result (self.new ≡ record self.old {
+          calls = next_count self.old.calls;
+          faults = next_count self.old.faults;
+        }) }
         ensures within { length self.new.written ≤ self.new.room }
     {
         self.calls = self.calls.saturating_add(1);

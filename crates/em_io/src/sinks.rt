@@ -17,7 +17,8 @@ pub trait Sink {
     fn write(&mut self, bytes: &[u8]) -> Result<usize, Failed>
         ensures count { IfOk result (λ k. k ≤ length bytes.now) }
         ensures some { IfOk result (λ k. 0 < length bytes.now → 0 < k) }
-        ensures takes { IfOk result (λ k. written self.new ≡ and_then (written self.old) (take k bytes.now)) }
+        ensures takes { IfOk result (λ k. written self.new
+            ≡ and_then (written self.old) (take k bytes.now)) }
 
         // A write that fails appends nothing, and is counted.
         ensures unwritten { OnErr result (written self.new ≡ written self.old) }
@@ -31,7 +32,8 @@ pub trait Sink {
 /// before it, were appended.
 pub fn write_all<K: Sink>(out: &mut K, bytes: &[u8]) -> Result<(), Failed>
     ensures all { OnOk result (K.written out.new ≡ and_then (K.written out.old) bytes.now) }
-    ensures part { OnErr result ((n : ℕ) × (n ≤ length bytes.now) × (K.written out.new ≡ and_then (K.written out.old) (take n bytes.now))) }
+    ensures part { OnErr result ((n : ℕ) × (n ≤ length bytes.now)
+        × (K.written out.new ≡ and_then (K.written out.old) (take n bytes.now))) }
     ensures cause { OnErr result (Rose (K.faults out.old) (K.faults out.new)) }
     ensures grows { K.faults out.old ≤ K.faults out.new }
 {

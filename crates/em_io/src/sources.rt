@@ -1,8 +1,9 @@
 //! What gives bytes, and reading all of them up to the limit of an input.
 ghost use Rattle.std.specs.Prelude.{◌≡◌, ◌≢◌, ℕ, ◌+◌, ◌<◌, ◌≤◌, List, length, take, Option, IfOk, OnOk, OnErr};
 ghost use Rattle.em_io.specs.Bytes.{input_limit, Rose, then_left, IsAtEnd, Took};
+ghost use Rattle.em_io.specs.declared.sources.ReadError.TheVariants.{NoMemory, ReadFault};
 
-use std::alloc::Global;
+use std::alloc::{AllocError, Global};
 use thiserror::Error;
 
 /// The longest input, in bytes: 16 MiB.
@@ -25,9 +26,25 @@ pub enum ReadError {
     /// The input is longer than [`INPUT_LIMIT`].
     #[error("the input is too long")]
     TooLong,
-    /// Memory could not be had.
+    /// Memory ran out.
     #[error("memory ran out")]
     NoMemory,
+}
+
+impl From<Failed> for ReadError {
+    ghost from_gives = { λ _ error. error ≡ ReadFault };
+
+    fn from(_error: Failed) -> ReadError {
+        ReadError::ReadFault
+    }
+}
+
+impl From<AllocError> for ReadError {
+    ghost from_gives = { λ _ error. error ≡ NoMemory };
+
+    fn from(_error: AllocError) -> ReadError {
+        ReadError::NoMemory
+    }
 }
 
 /// What gives bytes, from its first to its end.
@@ -43,7 +60,8 @@ pub trait Source {
     fn read(&mut self, buf: &mut [u8]) -> Result<usize, Failed>
         ensures count { IfOk result (λ k. k ≤ length buf.old) }
         ensures len { length buf.new ≡ length buf.old }
-        ensures gives { IfOk result (λ k. left self.old ≡ then_left (take k buf.new) (left self.new)) }
+        ensures gives { IfOk result (λ k. left self.old
+            ≡ then_left (take k buf.new) (left self.new)) }
         ensures end { IfOk result (λ k. k ≡ 0 → 0 < length buf.old → IsAtEnd (left self.new)) }
 
         // A read that fails takes nothing, and is counted.
@@ -64,8 +82,10 @@ pub fn read_all<S: Source>(alloc: Global, src: &mut S) -> Result<Vec<u8>, ReadEr
 
     // Each other answer, by its cause.
     ensures fault { result ≡ Err ReadError.ReadFault → Rose (S.faults src.old) (S.faults src.new) }
-    ensures too_long { result ≡ Err ReadError.TooLong → Took (λ n. n ≡ input_limit + 1) (S.left src.old) (S.left src.new) }
-    ensures short { result ≢ Err ReadError.TooLong → Took (λ n. n ≤ input_limit) (S.left src.old) (S.left src.new) }
+    ensures too_long { result ≡ Err ReadError.TooLong
+        → Took (λ n. n ≡ input_limit + 1) (S.left src.old) (S.left src.new) }
+    ensures short { result ≢ Err ReadError.TooLong
+        → Took (λ n. n ≤ input_limit) (S.left src.old) (S.left src.new) }
 
     ensures grows { S.faults src.old ≤ S.faults src.new }
 {
@@ -75,17 +95,13 @@ pub fn read_all<S: Source>(alloc: Global, src: &mut S) -> Result<Vec<u8>, ReadEr
         // One byte past the limit is asked for, so that a longer input is told from one that ends there.
         let room = INPUT_LIMIT - bytes.len();
         let asked = PIECE.min(room + 1);
-        match src.read(&mut buf[..asked]) {
-            Ok(0) => return Ok(bytes),
-            Ok(count) => {
-                if count > room {
-                    return Err(ReadError::TooLong);
-                }
-                if bytes.extend_from_slice(&buf[..count]).is_err() {
-                    return Err(ReadError::NoMemory);
-                }
-            }
-            Err(Failed) => return Err(ReadError::ReadFault),
+        let count = src.read(&mut buf[..asked])?;
+        if count == 0 {
+            return Ok(bytes);
         }
+        if count > room {
+            return Err(ReadError::TooLong);
+        }
+        bytes.extend_from_slice(&buf[..count])?;
     }
 }

@@ -1,8 +1,7 @@
 //! Any reader and any writer of the standard library as a source and as a sink.
 ghost use Rattle.std.specs.Prelude.{◌≡◌, ◌<◌, ◌≤◌, length, None, IfOk, OnOk, OnErr};
 ghost use Rattle.std.specs.Io.KnownBytes.{ReadConsumes, WriteAppends};
-ghost use Rattle.em_io.specs.Bytes.{Rose};
-ghost use Rattle.em_io.specs.Memory.{next_count};
+ghost use Rattle.em_io.specs.Bytes.{Rose, next_count};
 
 use crate::sinks::Sink;
 use crate::sources::{Failed, Source};
@@ -47,7 +46,9 @@ impl<R: Read + Drop> Source for StdSource<R> {
         ensures grows { self.old.faults ≤ self.new.faults }
 
         // What the reader tells of its bytes is what this read says of them.
-        ensures bytes { ReadConsumes (R.remaining self.old.inner) (R.remaining self.new.inner) result buf.new }
+        ensures bytes { let before = R.remaining self.old.inner in
+            let after = R.remaining self.new.inner in
+            ReadConsumes before after result buf.new }
         ensures ok { OnOk result (self.new.faults ≡ self.old.faults) }
         ensures err { OnErr result (self.new.faults ≡ next_count self.old.faults) }
     {
@@ -99,7 +100,9 @@ impl<W: Write + Drop> Sink for StdSink<W> {
         ensures grows { self.old.faults ≤ self.new.faults }
 
         // What the writer tells of its bytes is what this write says of them.
-        ensures bytes { WriteAppends (W.contents self.old.inner) (W.contents self.new.inner) result bytes.now }
+        ensures bytes { let before = W.contents self.old.inner in
+            let after = W.contents self.new.inner in
+            WriteAppends before after result bytes.now }
         ensures ok { OnOk result (self.new.faults ≡ self.old.faults) }
         ensures err { OnErr result (self.new.faults ≡ next_count self.old.faults) }
     {

@@ -1,2 +1,4 @@
+pub mod InstructionOrNone
 pub mod Joined
+pub mod OneInstruction
 pub mod Signs

@@ -1,6 +1,6 @@
 //! Instructions put together into words.
 ghost use Rattle.std.specs.Prelude.{◌≡◌, ◌+◌, ◌*◌, ◌<◌, ◌^◌};
-ghost use Rattle.em_isa.specs.Encoding.{Fits, b_format, bits, i_format, j_format, r_format, s_format, u_format, word_of};
+ghost use Rattle.em_isa.specs.Encoding.{Fits, b_format, bits, i_format, j_format, operation_kind, r_format, s_format, shift_kind, u_format, word_of};
 
 use crate::fields::{bits_of, unsigned};
 use crate::instructions::Instr;
@@ -30,24 +30,39 @@ pub fn encode(i: &Instr) -> u32
             rd,
             rs1,
             imm,
-        } => {
-            let kind = if alt { 0b010_0000 << 5 } else { 0 };
-            i_word(kind | unsigned(imm, 12), rs1, op, rd, OP_IMM)
-        }
+        } => i_word(shift_bits(alt) | unsigned(imm, 12), rs1, op, rd, OP_IMM),
         Instr::Op {
             op,
             alt,
             rd,
             rs1,
             rs2,
-        } => {
-            let kind = if alt { 0b010_0000 } else { 0 };
-            r_word(kind, rs2 as u32, rs1, op, rd as u32, OP)
-        }
+        } => r_word(
+            operation_bits(alt),
+            u32::from(rs2),
+            rs1,
+            op,
+            u32::from(rd),
+            OP,
+        ),
         Instr::Fence { rd, rs1, imm } => i_word(unsigned(imm, 12), rs1, 0, rd, MISC_MEM),
         Instr::Ecall => i_word(0, 0, 0, 0, SYSTEM),
         Instr::Ebreak => i_word(1, 0, 0, 0, SYSTEM),
     }
+}
+
+/// The bits that tell `srai` from `srli`, as a part of the immediate.
+fn shift_bits(alt: bool) -> u32
+    ensures { result ≡ shift_kind alt }
+{
+    if alt { 0b010_0000 << 5 } else { 0 }
+}
+
+/// The bits that tell `sub` and `sra` from `add` and `srl`, as a funct7.
+fn operation_bits(alt: bool) -> u32
+    ensures { result ≡ operation_kind alt }
+{
+    if alt { 0b010_0000 } else { 0 }
 }
 
 /// A word of format R.
@@ -60,8 +75,8 @@ fn r_word(funct7: u32, rs2: u32, rs1: u8, funct3: u8, rd: u32, opcode: u32) -> u
     requires opcode { opcode < 2 ^ 7 }
     ensures { result ≡ r_format funct7 rs2 rs1 funct3 rd opcode }
 {
-    let high = funct7 << 25 | rs2 << 20 | (rs1 as u32) << 15;
-    high | (funct3 as u32) << 12 | rd << 7 | opcode
+    let high = funct7 << 25 | rs2 << 20 | u32::from(rs1) << 15;
+    high | u32::from(funct3) << 12 | rd << 7 | opcode
 }
 
 /// A word of format I.
@@ -73,8 +88,8 @@ fn i_word(imm: u32, rs1: u8, funct3: u8, rd: u8, opcode: u32) -> u32
     requires opcode { opcode < 2 ^ 7 }
     ensures { result ≡ i_format imm rs1 funct3 rd opcode }
 {
-    let high = imm << 20 | (rs1 as u32) << 15;
-    high | (funct3 as u32) << 12 | (rd as u32) << 7 | opcode
+    let high = imm << 20 | u32::from(rs1) << 15;
+    high | u32::from(funct3) << 12 | u32::from(rd) << 7 | opcode
 }
 
 /// A word of format S.
@@ -88,7 +103,7 @@ fn s_word(imm: u32, rs2: u8, rs1: u8, funct3: u8, opcode: u32) -> u32
 {
     let high = bits_of(imm, 11, 5);
     let low = bits_of(imm, 4, 0);
-    r_word(high, rs2 as u32, rs1, funct3, low, opcode)
+    r_word(high, u32::from(rs2), rs1, funct3, low, opcode)
 }
 
 /// A word of format B.
@@ -102,7 +117,7 @@ fn b_word(imm: u32, rs2: u8, rs1: u8, funct3: u8, opcode: u32) -> u32
 {
     let high = bits_of(imm, 12, 12) << 6 | bits_of(imm, 10, 5);
     let low = bits_of(imm, 4, 1) << 1 | bits_of(imm, 11, 11);
-    r_word(high, rs2 as u32, rs1, funct3, low, opcode)
+    r_word(high, u32::from(rs2), rs1, funct3, low, opcode)
 }
 
 /// A word of format U, whose immediate is given without its 12 zeros.
@@ -112,7 +127,7 @@ fn u_word(imm: u32, rd: u8, opcode: u32) -> u32
     requires opcode { opcode < 2 ^ 7 }
     ensures { result ≡ u_format imm rd opcode }
 {
-    imm << 12 | (rd as u32) << 7 | opcode
+    imm << 12 | u32::from(rd) << 7 | opcode
 }
 
 /// A word of format J.

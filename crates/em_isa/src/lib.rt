@@ -6,6 +6,7 @@ pub mod encoder;
 mod fields;
 mod groups;
 pub mod instructions;
+pub mod laws;
 mod opcodes;
 pub mod ranges;
 #[cfg(test)]
@@ -14,4 +15,5 @@ mod tests;
 pub use decoder::decode;
 pub use encoder::encode;
 pub use instructions::Instr;
+pub use laws::one_instruction;
 pub use ranges::fits;

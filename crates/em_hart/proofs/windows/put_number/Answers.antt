@@ -1,6 +1,6 @@
 use Rattle.std.proofs.Common.{◌≡◌, length, arith, ap, ◌+◌, ◌<◌}
 use Rattle.em_hart.specs.Widths.{bytes_in}
-use Rattle.em_hart.proofs.Bytes.{put_four, four_bytes}
+use Rattle.em_hart.proofs.BytesInARow.{put_four, four_bytes}
 use Rattle.em_hart.proofs.windows.put_number.Goals as goal
 
 pub returns-in-Word-clause-whole : goal.returns-in-Word-clause-whole

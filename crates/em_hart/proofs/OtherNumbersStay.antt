@@ -2,7 +2,7 @@
 use Rattle.std.proofs.Common.{◌≡◌, ◌≢◌, ℕ, ◌+◌, ◌-◌, ◌*◌, ◌≤◌, List, ◌++◌, length, take, drop, inl, inr, sym, ap, ◌∙◌, arith}
 use Rattle.std.proofs.lemmas.List.{append_assoc, drop_at, drop-drop, drop-take, take-take, drop-append-le, take-append-le, length-append, length-take-le, length-drop}
 use Rattle.std.proofs.lemmas.Bool.{cases_lt}
-use Rattle.em_hart.specs.Hart.{number_of, bytes_of, number_at, with_number}
+use Rattle.em_hart.specs.Hart.{number_of_bytes, bytes_of, number_in_bytes, with_number}
 
 -- a word below the place that was written
 below : (bytes rest : List ℕ) (p q : ℕ) → q + 4 ≤ p → p ≤ length bytes → take 4 (drop q (take p bytes ++ rest)) ≡ take 4 (drop q bytes)
@@ -25,15 +25,16 @@ above bytes front p q l h =
     ∙ drop-drop (q - (p + 4)) (p + 4) bytes
     ∙ ap (λ (n : ℕ). drop n bytes) e
 
-pub number_at-with_number_other : (bytes : List ℕ) (i j w : ℕ) → j ≢ i → 4 * i + 4 ≤ length bytes
-    → number_at (with_number bytes 4 (4 * i) w) 4 (4 * j) ≡ number_at bytes 4 (4 * j)
-number_at-with_number_other bytes i j w n h =
+-- a number that was put at one word leaves the others as they were
+pub number_in_bytes-with_number_other : (bytes : List ℕ) (i j w : ℕ) → j ≢ i → 4 * i + 4 ≤ length bytes
+    → number_in_bytes (with_number bytes 4 (4 * i) w) 4 (4 * j) ≡ number_in_bytes bytes 4 (4 * j)
+number_in_bytes-with_number_other bytes i j w n h =
     let p = 4 * i in
     let front = take p bytes ++ bytes_of 4 w in
     let len : length front ≡ p + 4 = omega (arith, length-append (take p bytes) (bytes_of 4 w), length-take-le p bytes (omega arith)) in
     elim (cases_lt j i) [
       | inl l ↦
-          ap (λ (x : List ℕ). number_of (take 4 (drop (4 * j) x))) (append_assoc (take p bytes) (bytes_of 4 w) (drop (p + 4) bytes))
-          ∙ ap number_of (below bytes (bytes_of 4 w ++ drop (p + 4) bytes) p (4 * j) (omega arith) (omega arith))
-      | inr g ↦ ap (λ (x : List ℕ). number_of (take 4 x)) (above bytes front p (4 * j) len (omega arith))
+          ap (λ (x : List ℕ). number_of_bytes (take 4 (drop (4 * j) x))) (append_assoc (take p bytes) (bytes_of 4 w) (drop (p + 4) bytes))
+          ∙ ap number_of_bytes (below bytes (bytes_of 4 w ++ drop (p + 4) bytes) p (4 * j) (omega arith) (omega arith))
+      | inr g ↦ ap (λ (x : List ℕ). number_of_bytes (take 4 x)) (above bytes front p (4 * j) len (omega arith))
     ]

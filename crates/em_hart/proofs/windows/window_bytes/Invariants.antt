@@ -1,7 +1,7 @@
 use Rattle.std.proofs.Common.{◌≡◌, ◌*◌, take, vec_len}
 use Rattle.std.specs.List.{flat_map}
 use Rattle.em_hart.specs.Hart.{bytes_of}
-use Rattle.em_hart.proofs.windows.filled.Given as goal
+use Rattle.em_hart.proofs.windows.window_bytes.Given as goal
 
 abbrev pub invariant-loop-word : goal.invariant-loop-word
 invariant-loop-word l =

@@ -25,6 +25,7 @@ put_two xs p a b h =
     ∙ ap (λ (front : List ℕ). front ++ drop (p + 1 + 1) xs) (append_assoc (take p xs) (a ∷ []) (b ∷ []))
     ∙ ap (λ (n : ℕ). take p xs ++ (a ∷ b ∷ []) ++ drop n xs) e
 
+-- four bytes in a row
 pub put_four : (xs : List ℕ) (p a b c d : ℕ) → p + 3 < length xs
     → set (set (set (set xs p a) (p + 1) b) (p + 2) c) (p + 3) d ≡ take p xs ++ (a ∷ b ∷ c ∷ d ∷ []) ++ drop (p + 4) xs
 put_four xs p a b c d h =
