@@ -2,9 +2,10 @@
 use Rattle.std.proofs.Common.{◌≡◌, ℕ, suc, ◌+◌, ◌*◌, ◌%◌, Bool, true, false, List, [], ◌∷◌, ◌++◌, Option, Some, None, IfSome, cond, sym, subst, arith}
 use Rattle.std.specs.Str.{bytes_eq}
 use Rattle.em_asm_read.specs.declared.items.Line.{Line}
-use Rattle.em_asm.specs.Code.{Labels, address_of, size_of}
+use Rattle.em_base.specs.Images.{Labels, address_of}
+use Rattle.em_asm.specs.Code.{size_of}
 use Rattle.em_asm.specs.Image.{gather, label_at, labels_of}
-use Rattle.em_asm.specs.Kept.{AreAligned}
+use Rattle.em_asm.specs.Coding.{AreAligned}
 
 either : (b : Bool) (at : ℕ) (o : Option ℕ) → at % 4 ≡ 0 → IfSome o (λ address. address % 4 ≡ 0) → IfSome (cond b (Some at) o) (λ address. address % 4 ≡ 0)
 either true at o h k = h

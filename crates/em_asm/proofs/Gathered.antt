@@ -7,13 +7,17 @@ use Rattle.std.proofs.lemmas.Grind.{common_steps, flat_map-append}
 use Rattle.em_asm_read.specs.declared.items.Item.TheVariants.{Nothing}
 use Rattle.em_asm_read.specs.declared.items.Line.{Line}
 use Rattle.em_asm.specs.Code.{size_of}
-use Rattle.em_asm.specs.Image.{code_size, gather, line_at, shared_word, shared_words}
+use Rattle.em_asm.specs.Image.{code_size, gather, shared_word, shared_words}
 
 gather-here : {A : Type 0} (give : ℕ → ℕ → Line → List A) (p at : ℕ) (y : Line) → give p at y ++ [] ≡ give (p + 0) (at + 4 * 0) y
 gather-here give p at y =
     let place : p ≡ p + 0 = omega arith in
     let address : at ≡ at + 4 * 0 = omega arith in
     append-nil (give p at y) ∙ ap₂ (λ i j. give i j y) place address
+
+-- the line at a place, counted from 0
+abbrev pub line_at : List Line → ℕ → Line
+line_at lines place = get_or lines place (record { label = None; item = Nothing })
 
 pub gather-nil : {A : Type 0} (give : ℕ → ℕ → Line → List A) (p at : ℕ) → gather give p at [] ≡ []
 unfolding gather

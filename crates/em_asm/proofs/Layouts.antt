@@ -1,11 +1,16 @@
 -- The labels and counts of lines, one line more.
-use Rattle.std.proofs.Common.{◌≡◌, ℕ, ◌+◌, ◌*◌, ◌<◌, List, ◌++◌, length, take, Option, Some, None, sym, ap, ap₂, ◌∙◌, below_more, length-append}
+use Rattle.std.proofs.Common.{◌≡◌, ℕ, ◌+◌, ◌*◌, ◌<◌, List, ◌++◌, length, take, Option, Some, None, sym, ap, ap₂, ◌∙◌, length-append}
+use Rattle.std.proofs.lemmas.Option.{slice_get-get_or}
 use Rattle.em_base.specs.declared.refusals.Refusal.{Refusal}
+use Rattle.em_base.specs.FirstFault.{AreClear, NamesFirst, by_test}
+use Rattle.em_base.proofs.FirstFaults.{clear_past, none_found}
+use Rattle.em_asm_read.specs.declared.items.Item.TheVariants.{Nothing}
 use Rattle.em_asm_read.specs.declared.items.Line.{Line}
 use Rattle.em_asm.specs.declared.faults.Fault.{Fault}
-use Rattle.em_asm.specs.Code.{Labels, size_of}
-use Rattle.em_asm.specs.Image.{AreClear, NamesFirst, code_size, label_at, labels_of, layout_fault, line_at, number_of, room_fault, shared_word, shared_words}
-use Rattle.em_asm.proofs.Gathered.{gather-next, size-next, shared-next}
+use Rattle.em_base.specs.Images.{Labels}
+use Rattle.em_asm.specs.Code.{size_of}
+use Rattle.em_asm.specs.Image.{code_of, code_size, label_at, labels_of, layout_fault, room_fault, shared_word, shared_words}
+use Rattle.em_asm.proofs.Gathered.{gather-next, line_at, size-next, shared-next}
 
 -- what stands before a line
 pub record Stands (lines : List Line) (i : ℕ) (found : Labels) (words others : ℕ) : Type 0 where
@@ -36,11 +41,24 @@ stands-next lines i labels after code more shared further line h s here a m f = 
       ∙ sym (ap length (shared-next lines i h) ∙ length-append (shared_words (take i lines)) (shared_word (line_at lines i).item));
 }
 
-pub clear-next : (test : List Line → Line → Option Fault) (lines : List Line) (i : ℕ) → AreClear test lines i → test (take i lines) (line_at lines i) ≡ None → AreClear test lines (i + 1)
-clear-next test lines i clear none = below_more (λ j. test (take j lines) (line_at lines j) ≡ None) i clear none
+-- what a test answers at a line of clear lines
+pub none-at : (test : List Line → Line → Option Fault) (lines : List Line) (n i : ℕ) → AreClear (by_test test) lines n → i < n → i < length lines
+    → test (take i lines) (line_at lines i) ≡ None
+none-at test lines n i clear before within = none_found test lines n i (line_at lines i) clear before (slice_get-get_or lines i (record { label = None; item = Nothing }) within)
 
-pub first-fault : (test : List Line → Line → Option Fault) (lines : List Line) (first i : ℕ) (fault : Fault) (refusal : Refusal)
-    → i < length lines → AreClear test lines i → test (take i lines) (line_at lines i) ≡ Some fault
-    → refusal ≡ (let r : Refusal = record { code = number_of fault; line = first + i } in r) → NamesFirst test first lines refusal
-first-fault test lines first i fault refusal h clear faulty e =
-    (i, (fault, record { within = h; faulty = faulty; before = clear }, ap (λ r. r.code) e, ap (λ r. r.line) e))
+-- where the test answers nothing, one line more is clear
+pub clear-next : (test : List Line → Line → Option Fault) (lines : List Line) (i : ℕ) → i < length lines → AreClear (by_test test) lines i
+    → test (take i lines) (line_at lines i) ≡ None → AreClear (by_test test) lines (i + 1)
+clear-next test lines i within clear none = clear_past test lines i (line_at lines i) clear (slice_get-get_or lines i (record { label = None; item = Nothing }) within) none
+
+-- where it answers a fault, the refusal names it
+pub first-fault : (test : List Line → Line → Option Fault) (lines : List Line) (number : ℕ → ℕ) (i : ℕ) (fault : Fault) (refusal : Refusal)
+    → i < length lines → AreClear (by_test test) lines i → test (take i lines) (line_at lines i) ≡ Some fault
+    → refusal ≡ (let r : Refusal = record { code = code_of fault; line = number i } in r) → NamesFirst (by_test test) code_of number lines refusal
+first-fault test lines number i fault refusal within clear faulty e = record {
+  place = i;
+  fault = fault;
+  first = record { item = line_at lines i; here = slice_get-get_or lines i (record { label = None; item = Nothing }) within; faulty = faulty; before = clear };
+  coded = ap (λ r. r.code) e;
+  placed = ap (λ r. r.line) e;
+}

@@ -4,5 +4,5 @@ pub mod Layouts
 pub mod Sized
 pub mod Aligned
 pub mod Whole
-pub mod Unique
+pub mod OneImage
 pub mod Loading

@@ -3,8 +3,8 @@ use Rattle.std.proofs.Common.{◌≡◌, ℕ, false, List, [], ◌∷◌, ◌++�
 use Rattle.std.specs.Map.{lookup}
 use Rattle.std.specs.Str.{bytes_eq}
 use denote.Ref.{Bor}
-use Rattle.em_asm.specs.Code.{address_of}
-use Rattle.em_asm.specs.Kept.{labels_in}
+use Rattle.em_base.specs.Images.{address_of}
+use Rattle.em_asm.specs.Coding.{labels_in}
 
 -- a name has the same address in both
 pub lookup-labels : (name : List ℕ) (entries : List (Bor (List ℕ) × ℕ)) → lookup (λ (key : Bor (List ℕ)). bytes_eq name key.now) entries ≡ address_of (labels_in entries) name

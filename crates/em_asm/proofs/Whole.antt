@@ -11,9 +11,12 @@ use Rattle.em_asm_read.specs.declared.items.Item.TheVariants.{Nothing, One, Bran
 use Rattle.em_asm_read.specs.declared.items.Line.{Line}
 use Rattle.em_asm.specs.declared.faults.Fault.{Fault}
 use Rattle.em_asm.specs.declared.faults.Fault.TheVariants.{LabelTwice}
-use Rattle.em_asm.specs.Code.{Labels, address_of, size_of}
-use Rattle.em_asm.specs.Image.{AreClear, code_size, gather, is_known, label_at, labels_of, layout_fault, line_at, room_fault, shared_words, wait_at, waits_of}
-use Rattle.em_asm.proofs.Gathered.{all-taken, gather-next, gather-nil}
+use Rattle.em_base.specs.Images.{Labels, address_of}
+use Rattle.em_asm.specs.Code.{size_of}
+use Rattle.em_asm.specs.Image.{code_size, gather, is_known, label_at, labels_of, layout_fault, room_fault, shared_words, wait_at, waits_of}
+use Rattle.em_base.specs.FirstFault.{AreClear, by_test}
+use Rattle.em_asm.proofs.Gathered.{all-taken, gather-next, gather-nil, line_at}
+use Rattle.em_asm.proofs.Layouts.{none-at}
 use Rattle.em_asm.proofs.Sized.{shared-small}
 
 -- ---- waits
@@ -22,24 +25,24 @@ lower : (low at : ℕ) (waits : List WaitAt) → low ≤ at → AreRising at wai
 lower low at [] h r = tt
 lower low at (wait ∷ waits) h r = (omega (arith, r.0), r.1)
 
-rising-more : (first p at low : ℕ) (item : Item) (rest : List WaitAt) → low ≤ at → AreRising (at + 4 * size_of item) rest → AreRising low (wait_at (first + p) at item ++ rest)
-rising-more first p at low Nothing rest h r = lower low (at + 4 * 0) rest (omega arith) r
-rising-more first p at low (One instruction) rest h r = lower low (at + 4 * 1) rest (omega arith) r
-rising-more first p at low (Branch op rs1 rs2 target) rest h r = lower low (at + 4 * 1) rest (omega arith) r
-rising-more first p at low (Jal rd target) rest h r = lower low (at + 4 * 1) rest (omega arith) r
-rising-more first p at low (Li rd value) rest h r = lower low (at + 4 * size_of (Li rd value)) rest (omega arith) r
-rising-more first p at low (Wait hint) rest h r = (omega arith, lower (at + 4 + 1) (at + 4 * 2) rest (omega arith) r)
-rising-more first p at low (Word word) rest h r = lower low (at + 4 * 0) rest (omega arith) r
-rising-more first p at low (Raw word) rest h r = lower low (at + 4 * 1) rest (omega arith) r
+rising-more : (number : ℕ → ℕ) (p at low : ℕ) (item : Item) (rest : List WaitAt) → low ≤ at → AreRising (at + 4 * size_of item) rest → AreRising low (wait_at (number p) at item ++ rest)
+rising-more number p at low Nothing rest h r = lower low (at + 4 * 0) rest (omega arith) r
+rising-more number p at low (One instruction) rest h r = lower low (at + 4 * 1) rest (omega arith) r
+rising-more number p at low (Branch op rs1 rs2 target) rest h r = lower low (at + 4 * 1) rest (omega arith) r
+rising-more number p at low (Jal rd target) rest h r = lower low (at + 4 * 1) rest (omega arith) r
+rising-more number p at low (Li rd value) rest h r = lower low (at + 4 * size_of (Li rd value)) rest (omega arith) r
+rising-more number p at low (Wait hint) rest h r = (omega arith, lower (at + 4 + 1) (at + 4 * 2) rest (omega arith) r)
+rising-more number p at low (Word word) rest h r = lower low (at + 4 * 0) rest (omega arith) r
+rising-more number p at low (Raw word) rest h r = lower low (at + 4 * 1) rest (omega arith) r
 
-rising-from : (first : ℕ) (lines : List Line) (p at : ℕ) → AreRising at (gather (λ place at line. wait_at (first + place) at line.item) p at lines)
+rising-from : (number : ℕ → ℕ) (lines : List Line) (p at : ℕ) → AreRising at (gather (λ place at line. wait_at (number place) at line.item) p at lines)
 unfolding gather
-rising-from first [] p at = tt
-rising-from first (line ∷ lines) p at =
-    rising-more first p at at line.item (gather (λ place at line. wait_at (first + place) at line.item) (suc p) (at + 4 * size_of line.item) lines) (omega arith) (rising-from first lines (suc p) (at + 4 * size_of line.item))
+rising-from number [] p at = tt
+rising-from number (line ∷ lines) p at =
+    rising-more number p at at line.item (gather (λ place at line. wait_at (number place) at line.item) (suc p) (at + 4 * size_of line.item) lines) (omega arith) (rising-from number lines (suc p) (at + 4 * size_of line.item))
 
-pub rising-waits : (first : ℕ) (lines : List Line) (found : List WaitAt) → found ≡ waits_of first lines → AreRising 0 found
-rising-waits first lines found e = subst (AreRising 0) (sym e) (rising-from first lines 0 0)
+pub rising-waits : (number : ℕ → ℕ) (lines : List Line) (found : List WaitAt) → found ≡ waits_of number lines → AreRising 0 found
+rising-waits number lines found e = subst (AreRising 0) (sym e) (rising-from number lines 0 0)
 
 -- ---- labels
 
@@ -85,21 +88,21 @@ once-line : (labels : Labels) (label : Option (List ℕ)) (at : ℕ) → AreOnce
 once-line labels None at once new = subst AreOnce (sym (append-nil labels)) once
 once-line labels (Some name) at once new = once-push labels name at once (nothing (address_of labels name) new)
 
-pub once-labels : (lines : List Line) (i : ℕ) → AreClear layout_fault lines (length lines) → i ≤ length lines → AreOnce (labels_of (take i lines))
+pub once-labels : (lines : List Line) (i : ℕ) → AreClear (by_test layout_fault) lines (length lines) → i ≤ length lines → AreOnce (labels_of (take i lines))
 once-labels lines zero clear h = subst AreOnce (sym (gather-nil (λ place at line. label_at at line.label) 0 0)) (λ i j before within. absurd (omega arith))
 once-labels lines (suc i) clear h =
-    let new = room-new (labels_of (take i lines)) (code_size (take i lines)) (length (shared_words (take i lines))) (line_at lines i) (clear i (omega arith)) in
+    let new = room-new (labels_of (take i lines)) (code_size (take i lines)) (length (shared_words (take i lines))) (line_at lines i) (none-at layout_fault lines (length lines) i clear (omega arith) (omega arith)) in
     let more = once-line (labels_of (take i lines)) (line_at lines i).label (4 * code_size (take i lines)) (once-labels lines i clear (omega arith)) new in
     let next = gather-next (λ place at line. label_at at line.label) lines i (omega arith) in
     subst (λ n. AreOnce (labels_of (take n lines))) (add-one i) (subst AreOnce (sym next) more)
 
-pub whole-image : (first : ℕ) (lines : List Line) (image : Image) → AreClear layout_fault lines (length lines) → length image.words ≤ most_words
-    → image.shared ≡ shared_words lines → image.waits ≡ waits_of first lines → image.labels ≡ labels_of lines → IsWhole image
-whole-image first lines image clear few shared waits labels =
+pub whole-image : (number : ℕ → ℕ) (lines : List Line) (image : Image) → AreClear (by_test layout_fault) lines (length lines) → length image.words ≤ most_words
+    → image.shared ≡ shared_words lines → image.waits ≡ waits_of number lines → image.labels ≡ labels_of lines → IsWhole image
+whole-image number lines image clear few shared waits labels =
     let all = all-taken lines (length lines) (omega arith) in
     record {
       code = few;
       shared_words = subst (λ ls. length ls ≤ most_words) (ap shared_words all ∙ sym shared) (shared-small lines (length lines) clear (omega arith));
-      rising = rising-waits first lines image.waits waits;
+      rising = rising-waits number lines image.waits waits;
       once = subst AreOnce (ap labels_of all ∙ sym labels) (once-labels lines (length lines) clear (omega arith));
     }

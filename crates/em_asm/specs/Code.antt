@@ -1,8 +1,7 @@
 -- The code words of an item: those of the instructions that its statement stands for. The instructions are the manual's; what
 -- `li` comes to is its "RISC-V Assembly Programmer's Handbook", and `waitjob` is this project's own.
 use Rattle.std.specs.Prelude.{ℕ, ◌-◌, ◌/◌, ◌%◌, ◌^◌, ℤ, pos, negsuc, ◌-ℤ◌, int_le, int_lt, neg_ℤ, unsigned_abs, Bool, false, ◌&&◌, nat_lt, nat_eq, List, [], ◌∷◌, length, map, Option, Some, None, Result, Ok, Err, if◌then◌else◌}
-use Rattle.std.specs.Map.{lookup}
-use Rattle.std.specs.Str.{bytes_eq}
+use Rattle.em_base.specs.Images.{Labels, address_of}
 use Rattle.em_isa.specs.declared.instructions.Instr.{Instr}
 use Rattle.em_isa.specs.declared.instructions.Instr.TheVariants.{Lui, OpImm, Ecall, Branch as BranchBy, Jal as JalBy}
 use Rattle.em_isa.specs.Encoding.{word_of}
@@ -49,14 +48,6 @@ waits = adds 17 0 (pos 1) ∷ Ecall ∷ []
 
 -- ---- targets
 
--- labels, each with its address
-abbrev pub Labels : Type 0
-Labels = List (List ℕ × ℕ)
-
--- the address of the label of this name
-abbrev pub address_of : Labels → List ℕ → Option ℕ
-address_of labels name = lookup (λ other. bytes_eq name other) labels
-
 -- an offset that is at least -half and below half
 abbrev pub reaching : ℕ → ℤ → Result ℤ Fault
 reaching half offset =
@@ -74,20 +65,21 @@ aim labels half at (Label name) = between half at (address_of labels name)
 
 -- ---- items
 
+-- goes on with the value, unless there is a fault already
 abbrev pub then_code : {X : Type 0} → Result X Fault → (X → List ℕ) → Result (List ℕ) Fault
 then_code (Ok x) code = Ok (code x)
 then_code (Err fault) code = Err fault
 
 -- the code words of an item at an address, or the fault of its target
-abbrev pub code_of : Labels → ℕ → Item → Result (List ℕ) Fault
-code_of labels at Nothing = Ok []
-code_of labels at (One instruction) = Ok (word_of instruction ∷ [])
-code_of labels at (Branch op rs1 rs2 target) = then_code (aim labels 4096 at target) (λ offset. word_of (BranchBy op rs1 rs2 offset) ∷ [])
-code_of labels at (Jal rd target) = then_code (aim labels 1048576 at target) (λ offset. word_of (JalBy rd offset) ∷ [])
-code_of labels at (Li rd value) = Ok (map word_of (loads rd value))
-code_of labels at (Wait hint) = Ok (map word_of waits)
-code_of labels at (Word word) = Ok []
-code_of labels at (Raw word) = Ok (word ∷ [])
+abbrev pub words_of_item : Labels → ℕ → Item → Result (List ℕ) Fault
+words_of_item labels at Nothing = Ok []
+words_of_item labels at (One instruction) = Ok (word_of instruction ∷ [])
+words_of_item labels at (Branch op rs1 rs2 target) = then_code (aim labels 4096 at target) (λ offset. word_of (BranchBy op rs1 rs2 offset) ∷ [])
+words_of_item labels at (Jal rd target) = then_code (aim labels 1048576 at target) (λ offset. word_of (JalBy rd offset) ∷ [])
+words_of_item labels at (Li rd value) = Ok (map word_of (loads rd value))
+words_of_item labels at (Wait hint) = Ok (map word_of waits)
+words_of_item labels at (Word word) = Ok []
+words_of_item labels at (Raw word) = Ok (word ∷ [])
 
 -- how many code words an item has
 abbrev pub size_of : Item → ℕ

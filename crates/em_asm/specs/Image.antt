@@ -1,8 +1,9 @@
 -- The image of a list of lines, and the first line that is refused. This project's own.
-use Rattle.std.specs.Prelude.{◌≡◌, ℕ, suc, ◌+◌, ◌*◌, ◌<◌, ◌⊎◌, ⊤, Bool, false, nat_lt, is_some, List, [], ◌∷◌, ◌++◌, length, take, slice_index_or, sum_by, Option, Some, None, if◌then◌else◌}
+use Rattle.std.specs.Prelude.{◌≡◌, ℕ, suc, ◌+◌, ◌*◌, ◌⊎◌, ⊤, Bool, false, nat_lt, is_some, List, [], ◌∷◌, ◌++◌, length, sum_by, Option, Some, None, if◌then◌else◌}
 use Rattle.std.specs.List.{flat_map}
 use Rattle.std.specs.Option.{unwrap_or}
 use Rattle.std.specs.Result.{result_ok, result_err}
+use Rattle.em_base.specs.FirstFault.{AreClear, NamesFirst, by_test}
 use Rattle.em_base.specs.Images.{most_words}
 use Rattle.em_base.specs.declared.images.Image.{Image}
 use Rattle.em_base.specs.declared.images.Wait.{Wait as WaitAt}
@@ -10,11 +11,12 @@ use Rattle.em_base.specs.declared.refusals.Refusal.{Refusal}
 use Rattle.em_base.specs.declared.refusals.Fail.{Fail}
 use Rattle.em_base.specs.declared.refusals.Fail.TheVariants.{Refused, NoMemory}
 use Rattle.em_asm_read.specs.declared.items.Item.{Item}
-use Rattle.em_asm_read.specs.declared.items.Item.TheVariants.{Nothing, Word, Wait}
+use Rattle.em_asm_read.specs.declared.items.Item.TheVariants.{Word, Wait}
 use Rattle.em_asm_read.specs.declared.items.Line.{Line}
 use Rattle.em_asm.specs.declared.faults.Fault.{Fault}
 use Rattle.em_asm.specs.declared.faults.Fault.TheVariants.{LabelTwice, LabelMissing, TargetTooFar, TooMuchCode, TooMuchShared}
-use Rattle.em_asm.specs.Code.{Labels, address_of, code_of, size_of}
+use Rattle.em_base.specs.Images.{Labels, address_of}
+use Rattle.em_asm.specs.Code.{words_of_item, size_of}
 
 -- ---- what lines come to
 
@@ -22,7 +24,7 @@ use Rattle.em_asm.specs.Code.{Labels, address_of, code_of, size_of}
 abbrev pub code_size : List Line → ℕ
 code_size lines = sum_by (λ line. size_of line.item) lines
 
--- what the lines give, one after the other: each by its place, and by the address of the next code word
+-- what the lines give, one after the other: each by its place, counted from 0, and by the address of the next code word
 unfoldable pub gather : {A : Type 0} → (ℕ → ℕ → Line → List A) → ℕ → ℕ → List Line → List A
 gather give place at [] = []
 gather give place at (line ∷ lines) = give place at line ++ gather give (suc place) (at + 4 * size_of line.item) lines
@@ -36,16 +38,16 @@ abbrev pub labels_of : List Line → Labels
 labels_of lines = gather (λ place at line. label_at at line.label) 0 0 lines
 
 -- the code words of the lines; an item that has none for want of its target is refused
-abbrev pub words_of : Labels → List Line → List ℕ
-words_of labels lines = gather (λ place at line. unwrap_or (result_ok (code_of labels at line.item)) []) 0 0 lines
+abbrev pub code_words_of : Labels → List Line → List ℕ
+code_words_of labels lines = gather (λ place at line. unwrap_or (result_ok (words_of_item labels at line.item)) []) 0 0 lines
 
--- a `waitjob` has the address of its call, which is its second word, and its line
+-- a `waitjob` has the address of its call, which is its second word, and the number of its line
 abbrev pub wait_at : ℕ → ℕ → Item → List WaitAt
 wait_at number at (Wait hint) = record { address = at + 4; line = number; hint = hint } ∷ []
 wait_at number at _ = []
 
-abbrev pub waits_of : ℕ → List Line → List WaitAt
-waits_of first lines = gather (λ place at line. wait_at (first + place) at line.item) 0 0 lines
+abbrev pub waits_of : (ℕ → ℕ) → List Line → List WaitAt
+waits_of number lines = gather (λ place at line. wait_at (number place) at line.item) 0 0 lines
 
 -- the shared word of a `.word`
 abbrev pub shared_word : Item → List ℕ
@@ -58,12 +60,12 @@ shared_words lines = flat_map (λ line. shared_word line.item) lines
 -- ---- what is refused
 
 -- the code of a fault
-abbrev pub number_of : Fault → ℕ
-number_of LabelTwice = 6
-number_of LabelMissing = 7
-number_of TargetTooFar = 8
-number_of TooMuchCode = 9
-number_of TooMuchShared = 10
+abbrev pub code_of : Fault → ℕ
+code_of LabelTwice = 6
+code_of LabelMissing = 7
+code_of TargetTooFar = 8
+code_of TooMuchCode = 9
+code_of TooMuchShared = 10
 
 -- whether the label is among these
 abbrev pub is_known : Labels → Option (List ℕ) → Bool
@@ -78,49 +80,32 @@ room_fault labels code shared line =
     else if nat_lt most_words (shared + length (shared_word line.item)) then Some TooMuchShared
     else None
 
--- the fault of a line behind others in its label or its size
+-- the fault of a line in its label or its size, given the lines before it
 abbrev pub layout_fault : List Line → Line → Option Fault
 layout_fault before line = room_fault (labels_of before) (code_size before) (length (shared_words before)) line
 
--- the fault of a line behind others in its target, by the labels of all lines
+-- the fault of a line in its target, given the lines before it and the labels of all lines
 abbrev pub target_fault : Labels → List Line → Line → Option Fault
-target_fault labels before line = result_err (code_of labels (4 * code_size before) line.item)
+target_fault labels before line = result_err (words_of_item labels (4 * code_size before) line.item)
 
--- the line at a place, counted from 0
-abbrev pub line_at : List Line → ℕ → Line
-line_at lines place = slice_index_or lines place (record { label = None; item = Nothing })
+-- the lines are refused, by the numbers of their places: their labels and sizes are looked at first, in all of them, and then
+-- their targets
+abbrev pub IsAssemblyRefused : (ℕ → ℕ) → List Line → Refusal → Type 0
+IsAssemblyRefused number lines refusal =
+    NamesFirst (by_test layout_fault) code_of number lines refusal
+    ⊎ (AreClear (by_test layout_fault) lines (length lines)
+    × NamesFirst (by_test (target_fault (labels_of lines))) code_of number lines refusal)
 
--- the lines before a place have no fault
-abbrev pub AreClear : (List Line → Line → Option Fault) → List Line → ℕ → Type 0
-AreClear test lines place = (i : ℕ) → i < place → test (take i lines) (line_at lines i) ≡ None
+-- `NoMemory` may be answered at any time
+abbrev pub IsAssemblyFail : (ℕ → ℕ) → List Line → Fail → Type 0
+IsAssemblyFail number lines (Refused refusal) = IsAssemblyRefused number lines refusal
+IsAssemblyFail number lines NoMemory = ⊤
 
--- the line at this place is the first with a fault
-pub record IsFirstFault (test : List Line → Line → Option Fault) (lines : List Line) (place : ℕ) (fault : Fault) : Type 0 where
-  pub within : place < length lines
-  pub faulty : test (take place lines) (line_at lines place) ≡ Some fault
-  pub before : AreClear test lines place
-
--- the refusal names the first line with such a fault, where the first of the lines is line `first` of the whole input
-abbrev pub NamesFirst : (List Line → Line → Option Fault) → ℕ → List Line → Refusal → Type 0
-NamesFirst test first lines refusal =
-    (place : ℕ) × ((fault : Fault) × IsFirstFault test lines place fault × (refusal.code ≡ number_of fault) × (refusal.line ≡ first + place))
-
--- the lines are refused: their labels and sizes are looked at first, in all of them, and then their targets
-abbrev pub IsRefused : ℕ → List Line → Refusal → Type 0
-IsRefused first lines refusal =
-    NamesFirst layout_fault first lines refusal
-    ⊎ (AreClear layout_fault lines (length lines) × NamesFirst (target_fault (labels_of lines)) first lines refusal)
-
--- want of memory needs no cause
-abbrev pub IsFailOf : ℕ → List Line → Fail → Type 0
-IsFailOf first lines (Refused refusal) = IsRefused first lines refusal
-IsFailOf first lines NoMemory = ⊤
-
--- the image of lines, of which none is refused
-pub record IsImageOf (first : ℕ) (lines : List Line) (image : Image) : Type 0 where
-  pub laid_out : AreClear layout_fault lines (length lines)
-  pub aimed : AreClear (target_fault (labels_of lines)) lines (length lines)
-  pub words : image.words ≡ words_of (labels_of lines) lines
+-- the image of lines, of which none is refused, by the numbers of their places
+pub record IsImageOf (number : ℕ → ℕ) (lines : List Line) (image : Image) : Type 0 where
+  pub laid_out : AreClear (by_test layout_fault) lines (length lines)
+  pub aimed : AreClear (by_test (target_fault (labels_of lines))) lines (length lines)
+  pub words : image.words ≡ code_words_of (labels_of lines) lines
   pub shared : image.shared ≡ shared_words lines
-  pub waits : image.waits ≡ waits_of first lines
+  pub waits : image.waits ≡ waits_of number lines
   pub labels : image.labels ≡ labels_of lines

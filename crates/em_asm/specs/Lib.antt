@@ -1,3 +1,4 @@
 pub mod Code
 pub mod Image
-pub mod Kept
+pub mod Numbering
+pub mod Coding

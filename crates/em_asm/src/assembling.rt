@@ -1,43 +1,64 @@
 //! The image of a list of lines.
 ghost use Rattle.std.specs.Prelude.{◌≡◌, ◌<◌, ◌≤◌, ◌+◌, ◌^◌, ◌++◌, All, IfOk, IfErr, OnOk, length};
+ghost use Rattle.em_base.specs.FirstFault.{AreClear, by_test};
 ghost use Rattle.em_base.specs.Images.{IsWhole, most_words};
 ghost use Rattle.em_asm_read.specs.Fitting.{LineFits};
-ghost use Rattle.em_asm.specs.Image.{AreClear, IsFailOf, IsImageOf, label_at, labels_of, layout_fault, shared_word, shared_words, wait_at, waits_of};
+ghost use Rattle.em_asm.specs.Image.{IsAssemblyFail, IsImageOf, label_at, labels_of, layout_fault};
+ghost use Rattle.em_asm.specs.Image.{shared_word, shared_words, wait_at, waits_of};
+ghost use Rattle.em_asm.specs.Numbering.{AreNumbered, line_number_at};
 
 use crate::coding::{code_size, code_words};
 use crate::layout::lay_out;
+use crate::numbering::{Numbers, number_of_line};
 use em_asm_read::{Item, Line};
 use em_base::{Fail, Image, Items, Name, NoMemory, Wait};
 use std::alloc::Global;
 
-/// The image of lines, of which the first is line `first` of the whole input.
-///
-/// Refused in two passes, of which the second is made only where the first refuses nothing. The first names the first line
-/// whose label stands in an earlier line too (6), or that passes 16,384 code words (9) or shared words (10), in this order
-/// where one line has several faults. The second names the first line that names a label which is in no line (7), or one
-/// that is out of its instruction's reach (8). `NoMemory` where memory could not be had.
+/// The image of lines, of which the first is line `first` of the whole input, at most 2^31, and each other is the next.
+/// Refused as [`assemble_numbered`] refuses them.
 pub fn assemble(alloc: Global, lines: &[Line], first: u32) -> Result<Image, Fail>
     requires few { length lines.now < 2 ^ 31 }
     requires early { first ≤ 2 ^ 31 }
     requires fits { All LineFits lines.now }
-    ensures image { IfOk result (IsImageOf first lines.now) }
+    ensures image { IfOk result (IsImageOf (λ place. first + place) lines.now) }
     ensures whole { IfOk result IsWhole }
-    ensures refused { IfErr result (IsFailOf first lines.now) }
+    ensures refused { IfErr result (IsAssemblyFail (λ place. first + place) lines.now) }
 {
-    let labels = lay_out(alloc, lines, first)?;
-    let words = code_words(alloc, lines, first, &labels)?;
-    Ok(listed(alloc, words, lines, first)?)
+    assemble_numbered(alloc, lines, Numbers::Consecutive(first))
 }
 
-/// The image with these code words, and with what else the lines come to.
-fn listed(alloc: Global, words: Items<u32>, lines: &[Line], first: u32) -> Result<Image, NoMemory>
-    requires few { length lines.now < 2 ^ 31 }
-    requires early { first ≤ 2 ^ 31 }
-    requires room { AreClear layout_fault lines.now (length lines.now) }
+/// The image of lines with these numbers in the whole input.
+///
+/// Refused in two passes, of which the second is made only where the first refuses nothing. The first names the first line
+/// whose label stands in an earlier line too (6), or that passes 16,384 code words (9) or shared words (10), in this order
+/// where one line has several faults. The second names the first line that names a label which is in no line (7), or one
+/// that is out of its instruction's reach (8). `NoMemory` where memory runs out.
+pub fn assemble_numbered(alloc: Global, lines: &[Line], numbers: Numbers<'_>) -> Result<Image, Fail>
+    requires numbered { AreNumbered numbers (length lines.now) }
+    requires fits { All LineFits lines.now }
+    ensures image { IfOk result (IsImageOf (line_number_at numbers.entry) lines.now) }
+    ensures whole { IfOk result IsWhole }
+    ensures refused { IfErr result (IsAssemblyFail (line_number_at numbers.entry) lines.now) }
+{
+    let labels = lay_out(alloc, lines, numbers)?;
+    let words = code_words(alloc, lines, numbers, &labels)?;
+    Ok(image_of(alloc, words, lines, numbers)?)
+}
+
+/// The image with these code words, and with the labels, shared words and waits of the lines.
+fn image_of(
+    alloc: Global,
+    words: Items<u32>,
+    lines: &[Line],
+    numbers: Numbers<'_>,
+) -> Result<Image, NoMemory>
+    requires numbered { AreNumbered numbers (length lines.now) }
+    requires room { AreClear (by_test layout_fault) lines.now (length lines.now) }
     requires words { length words ≤ most_words }
     ensures words { IfOk result (λ image. image.words ≡ words) }
     ensures shared { IfOk result (λ image. image.shared ≡ shared_words lines.now) }
-    ensures waits { IfOk result (λ image. image.waits ≡ waits_of first lines.now) }
+    ensures waits { IfOk result (λ image.
+        image.waits ≡ waits_of (line_number_at numbers.entry) lines.now) }
     ensures labels { IfOk result (λ image. image.labels ≡ labels_of lines.now) }
     ensures whole { IfOk result IsWhole }
 {
@@ -49,7 +70,8 @@ fn listed(alloc: Global, words: Items<u32>, lines: &[Line], first: u32) -> Resul
     };
     let mut size = 0;
     for (place, line) in lines.iter().enumerate() {
-        list_line(alloc, &mut image, line, first + place as u32, 4 * size)?;
+        let number = number_of_line(numbers, place);
+        list_line(alloc, &mut image, line, number, 4 * size)?;
         size += code_size(&line.item);
     }
     Ok(image)
@@ -65,9 +87,12 @@ fn list_line(
 ) -> Result<(), NoMemory>
     requires { at ≤ 65536 }
     ensures words { image.new.words ≡ image.old.words }
-    ensures shared { OnOk result (image.new.shared ≡ image.old.shared ++ shared_word line.now.item) }
-    ensures waits { OnOk result (image.new.waits ≡ image.old.waits ++ wait_at number at line.now.item) }
-    ensures labels { OnOk result (image.new.labels ≡ image.old.labels ++ label_at at line.now.label) }
+    ensures shared { OnOk result
+        (image.new.shared ≡ image.old.shared ++ shared_word line.now.item) }
+    ensures waits { OnOk result
+        (image.new.waits ≡ image.old.waits ++ wait_at number at line.now.item) }
+    ensures labels { OnOk result
+        (image.new.labels ≡ image.old.labels ++ label_at at line.now.label) }
 {
     list_label(alloc, &mut image.labels, &line.label, at)?;
     list_shared(alloc, &mut image.shared, &line.item)?;

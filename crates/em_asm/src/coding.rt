@@ -1,14 +1,17 @@
 //! The code words of what a line says.
-ghost use Rattle.std.specs.Prelude.{◌≡◌, ◌<◌, ◌≤◌, ◌%◌, ◌^◌, ◌++◌, unsigned_abs, length, All, IfOk, IfErr, OnOk, IfSome};
+ghost use Rattle.std.specs.Prelude.{◌≡◌, ◌≤◌, ◌%◌, ◌++◌, unsigned_abs, length, All, IfOk, IfErr, OnOk, IfSome};
 ghost use Rattle.em_isa.specs.Encoding.{IsOffset};
-ghost use Rattle.em_base.specs.Images.{most_words};
+ghost use Rattle.em_base.specs.FirstFault.{AreClear, by_test};
+ghost use Rattle.em_base.specs.Images.{address_of, most_words};
 ghost use Rattle.em_asm_read.specs.Fitting.{ItemFits, LineFits, TargetFits};
 ghost use Rattle.em_asm.specs.Code as spec;
-ghost use Rattle.em_asm.specs.Image.{AreClear, layout_fault, target_fault, words_of};
-ghost use Rattle.em_asm.specs.Kept.{AreAligned, FailsFirst, code_in, labels_in, words_in};
+ghost use Rattle.em_asm.specs.Image.{layout_fault, target_fault, code_words_of};
+ghost use Rattle.em_asm.specs.Numbering.{AreNumbered, line_number_at};
+ghost use Rattle.em_asm.specs.Coding.{AreAligned, FailsFirst, code_in, labels_in, word_list};
 
 use crate::faults::Fault;
 use crate::loads::{addition, load_size, load_words};
+use crate::numbering::{Numbers, number_of_line};
 use crate::words::Words;
 use em_asm_read::{Item, Line, Target};
 use em_base::{Fail, Items, NoMemory};
@@ -60,7 +63,7 @@ fn between(address: Option<u32>, at: u32, half: u32) -> Result<i32, Fault>
 /// The address of the label of this name.
 fn address(labels: &IndexMap<&str, u32>, name: &str) -> Option<u32>
     requires aligned { AreAligned (labels_in labels.now.entries) }
-    ensures value { result ≡ spec.address_of (labels_in labels.now.entries) name.now }
+    ensures value { result ≡ address_of (labels_in labels.now.entries) name.now }
     ensures aligned { IfSome result (λ address. address % 4 ≡ 0) }
 {
     labels.get(name).copied()
@@ -86,7 +89,7 @@ pub fn code(labels: &IndexMap<&str, u32>, item: &Item, at: u32) -> Result<Words,
     requires fits { ItemFits item.now }
     requires at_aligned { at % 4 ≡ 0 }
     requires aligned { AreAligned (labels_in labels.now.entries) }
-    ensures { code_in result ≡ spec.code_of (labels_in labels.now.entries) at item.now }
+    ensures { code_in result ≡ spec.words_of_item (labels_in labels.now.entries) at item.now }
 {
     match item {
         Item::Nothing | Item::Word(_) => Ok(Words::None),
@@ -117,7 +120,7 @@ pub fn code(labels: &IndexMap<&str, u32>, item: &Item, at: u32) -> Result<Words,
 
 /// Puts code words at the end.
 fn put(alloc: Global, words: &mut Items<u32>, code: Words) -> Result<(), NoMemory>
-    ensures { OnOk result (words.new ≡ words.old ++ words_in code) }
+    ensures { OnOk result (words.new ≡ words.old ++ word_list code) }
 {
     match code {
         Words::None => Ok(()),
@@ -134,25 +137,29 @@ fn put(alloc: Global, words: &mut Items<u32>, code: Words) -> Result<(), NoMemor
 pub fn code_words(
     alloc: Global,
     lines: &[Line],
-    first: u32,
+    numbers: Numbers<'_>,
     labels: &IndexMap<&str, u32>,
 ) -> Result<Items<u32>, Fail>
-    requires few { length lines.now < 2 ^ 31 }
-    requires early { first ≤ 2 ^ 31 }
+    requires numbered { AreNumbered numbers (length lines.now) }
     requires fits { All LineFits lines.now }
-    requires room { AreClear layout_fault lines.now (length lines.now) }
+    requires room { AreClear (by_test layout_fault) lines.now (length lines.now) }
     requires aligned { AreAligned (labels_in labels.now.entries) }
-    ensures words { IfOk result (λ words. words ≡ words_of (labels_in labels.now.entries) lines.now) }
+    ensures words { let known = labels_in labels.now.entries in
+        IfOk result (λ words. words ≡ code_words_of known lines.now) }
     ensures few { IfOk result (λ words. length words ≤ most_words) }
-    ensures clear { OnOk result (AreClear (target_fault (labels_in labels.now.entries)) lines.now (length lines.now)) }
-    ensures refused { IfErr result (FailsFirst (target_fault (labels_in labels.now.entries)) first lines.now) }
+    ensures clear { let fault = target_fault (labels_in labels.now.entries) in
+        OnOk result (AreClear (by_test fault) lines.now (length lines.now)) }
+    ensures refused { let fault = target_fault (labels_in labels.now.entries) in
+        IfErr result (FailsFirst fault (line_number_at numbers.entry) lines.now) }
 {
     let mut words = Items::new(alloc);
     for (place, line) in lines.iter().enumerate() {
         let at = 4 * words.as_slice().len() as u32;
         match code(labels, &line.item, at) {
             Ok(code) => put(alloc, &mut words, code)?,
-            Err(fault) => return Err(Fail::Refused(fault.at(first + place as u32))),
+            Err(fault) => {
+                return Err(Fail::Refused(fault.at(number_of_line(numbers, place))));
+            }
         }
     }
     Ok(words)

@@ -1,6 +1,6 @@
 //! Why lines have no image.
 ghost use Rattle.std.specs.Prelude.{◌≡◌};
-ghost use Rattle.em_asm.specs.Image.{number_of};
+ghost use Rattle.em_asm.specs.Image.{code_of};
 
 use em_base::Refusal;
 
@@ -23,7 +23,7 @@ impl Fault {
     /// The refusal of a line with this fault, by the line's number in the whole input. Its code is the one of the table of
     /// codes in docs/FORMATS.md.
     pub fn at(self, line: u32) -> Refusal
-        ensures { result ≡ record { code = number_of self; line = line } }
+        ensures { result ≡ record { code = code_of self; line = line } }
     {
         let code = match self {
             Fault::LabelTwice => 6,

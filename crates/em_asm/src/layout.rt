@@ -1,12 +1,15 @@
 //! Where the labels of lines stand, and whether the lines have room.
 ghost use Rattle.std.specs.Prelude.{◌≡◌, ◌<◌, ◌≤◌, ◌+◌, ◌*◌, ◌^◌, ◌++◌, ◌∷◌, [], false, Some, None, IfOk, IfErr, OnOk, length};
+ghost use Rattle.em_base.specs.FirstFault.{AreClear, by_test};
 ghost use Rattle.em_base.specs.Images.{most_words};
-ghost use Rattle.em_asm.specs.Image.{AreClear, is_known, label_at, labels_of, layout_fault, room_fault, shared_word};
-ghost use Rattle.em_asm.specs.Kept.{FailsFirst, labels_in};
+ghost use Rattle.em_asm.specs.Image.{is_known, label_at, labels_of, layout_fault, room_fault, shared_word};
+ghost use Rattle.em_asm.specs.Numbering.{AreNumbered, line_number_at};
+ghost use Rattle.em_asm.specs.Coding.{FailsFirst, labels_in};
 ghost use Rattle.em_asm.specs.Code.{size_of};
 
 use crate::coding;
 use crate::faults::Fault;
+use crate::numbering::{Numbers, number_of_line};
 use em_asm_read::{Item, Line};
 use em_base::{Fail, NoMemory};
 use indexmap::IndexMap;
@@ -21,8 +24,11 @@ fn put_label<'a>(
     name: &'a str,
     address: u32,
 ) -> Result<bool, NoMemory>
-    ensures known { IfOk result (λ known. known ≡ is_known (labels_in labels.old.entries) (Some name.entry.now)) }
-    ensures put { IfOk result (λ known. known ≡ false → labels_in labels.new.entries ≡ labels_in labels.old.entries ++ (name.entry.now, address) ∷ []) }
+    ensures known { let before = labels_in labels.old.entries in
+        IfOk result (λ known. known ≡ is_known before (Some name.entry.now)) }
+    ensures put { let before = labels_in labels.old.entries in
+        let after = labels_in labels.new.entries in
+        IfOk result (λ known. known ≡ false → after ≡ before ++ (name.entry.now, address) ∷ []) }
 {
     let old = labels.insert(name, address)?;
     Ok(old.is_some())
@@ -45,8 +51,11 @@ fn put_line_label<'a>(
     line: &'a Line,
     address: u32,
 ) -> Result<bool, NoMemory>
-    ensures known { IfOk result (λ known. known ≡ is_known (labels_in labels.old.entries) line.entry.now.label) }
-    ensures put { IfOk result (λ known. known ≡ false → labels_in labels.new.entries ≡ labels_in labels.old.entries ++ label_at address line.entry.now.label) }
+    ensures known { let before = labels_in labels.old.entries in
+        IfOk result (λ known. known ≡ is_known before line.entry.now.label) }
+    ensures put { let before = labels_in labels.old.entries in
+        let after = labels_in labels.new.entries in
+        IfOk result (λ known. known ≡ false → after ≡ before ++ label_at address line.entry.now.label) }
 {
     match &line.label {
         Some(name) => put_label(labels, name.as_str(), address),
@@ -61,7 +70,7 @@ struct Room {
     shared: u32,
 }
 
-/// Puts the label of a line at the end and counts its words, and tells what is wrong with the line behind those before it.
+/// Puts the label of a line at the end and counts its words, and tells what is wrong with the line, given those before it.
 fn place_line<'a>(
     labels: &mut IndexMap<&'a str, u32>,
     room: &mut Room,
@@ -69,10 +78,17 @@ fn place_line<'a>(
 ) -> Result<Option<Fault>, NoMemory>
     requires code { room.old.code ≤ most_words }
     requires shared { room.old.shared ≤ most_words }
-    ensures fault { IfOk result (λ fault. fault ≡ room_fault (labels_in labels.old.entries) room.old.code room.old.shared line.entry.now) }
-    ensures labels { IfOk result (λ fault. fault ≡ None → labels_in labels.new.entries ≡ labels_in labels.old.entries ++ label_at (4 * room.old.code) line.entry.now.label) }
-    ensures code { IfOk result (λ fault. fault ≡ None → (room.new.code ≡ room.old.code + size_of line.entry.now.item) × (room.new.code ≤ most_words)) }
-    ensures shared { IfOk result (λ fault. fault ≡ None → (room.new.shared ≡ room.old.shared + length (shared_word line.entry.now.item)) × (room.new.shared ≤ most_words)) }
+    ensures fault { let before = labels_in labels.old.entries in
+        IfOk result (λ fault. fault ≡ room_fault before room.old.code room.old.shared line.entry.now) }
+    ensures labels { let before = labels_in labels.old.entries in
+        let after = labels_in labels.new.entries in
+        IfOk result (λ fault. fault ≡ None
+        → after ≡ before ++ label_at (4 * room.old.code) line.entry.now.label) }
+    ensures code { IfOk result (λ fault. fault ≡ None
+        → (room.new.code ≡ room.old.code + size_of line.entry.now.item) × (room.new.code ≤ most_words)) }
+    ensures shared { let more = length (shared_word line.entry.now.item) in
+        IfOk result (λ fault. fault ≡ None
+        → (room.new.shared ≡ room.old.shared + more) × (room.new.shared ≤ most_words)) }
 {
     if put_line_label(labels, line, 4 * room.code)? {
         return Ok(Some(Fault::LabelTwice));
@@ -93,19 +109,21 @@ fn place_line<'a>(
 pub fn lay_out<'a>(
     alloc: Global,
     lines: &'a [Line],
-    first: u32,
+    numbers: Numbers<'_>,
 ) -> Result<IndexMap<&'a str, u32>, Fail>
-    requires few { length lines.now < 2 ^ 31 }
-    requires early { first ≤ 2 ^ 31 }
+    requires { AreNumbered numbers (length lines.now) }
     ensures labels { IfOk result (λ labels. labels_in labels.entries ≡ labels_of lines.now) }
-    ensures clear { OnOk result (AreClear layout_fault lines.now (length lines.now)) }
-    ensures refused { IfErr result (FailsFirst layout_fault first lines.now) }
+    ensures clear { OnOk result (AreClear (by_test layout_fault) lines.now (length lines.now)) }
+    ensures refused { let number = line_number_at numbers.entry in
+        IfErr result (FailsFirst layout_fault number lines.now) }
 {
     let mut labels = IndexMap::new(alloc);
     let mut room = Room { code: 0, shared: 0 };
     for (place, line) in lines.iter().enumerate() {
         match place_line(&mut labels, &mut room, line)? {
-            Some(fault) => return Err(Fail::Refused(fault.at(first + place as u32))),
+            Some(fault) => {
+                return Err(Fail::Refused(fault.at(number_of_line(numbers, place))));
+            }
             None => {}
         }
     }

@@ -2,7 +2,7 @@
 ghost use Rattle.std.specs.Prelude.{◌≡◌, ℕ, ◌<◌, ◌≤◌, map, length};
 ghost use Rattle.em_isa.specs.Encoding.{Fits, word_of};
 ghost use Rattle.em_asm.specs.Code.{loads, signed};
-ghost use Rattle.em_asm.specs.Kept.{words_in};
+ghost use Rattle.em_asm.specs.Coding.{word_list};
 
 use crate::words::Words;
 use em_isa::{Instr, encode};
@@ -59,7 +59,7 @@ pub fn addition(rd: u8, rs1: u8, imm: i32) -> u32
 /// The code words that load a value into a register.
 pub fn load_words(rd: u8, value: u32) -> Words
     requires { rd < 32 }
-    ensures words { words_in result ≡ map word_of (loads rd value) }
+    ensures words { word_list result ≡ map word_of (loads rd value) }
 {
     if is_short(value) {
         return Words::One(addition(rd, 0, signed_value(value)));

@@ -13,11 +13,14 @@ use Rattle.std.specs.Str.{IsUtf8}
 use Rattle.std.specs.Str.Parse.{AllDigits}
 use Rattle.em_asm_read.specs.Labels.{is_label, is_label_start, is_label_byte}
 use Rattle.em_base.specs.Number.{IsMagnitude, IsNumber}
-use Rattle.em_asm_read.specs.Text.{is_ascii_text}
-use Rattle.em_asm_read.proofs.Trimming.{both, both_are, list_all-weaker, list_all-joined}
+use Rattle.em_base.proofs.Trimming.{both, both_are, list_all-weaker, list_all-joined}
 
 abbrev is_ascii_byte : ℕ → Bool
 is_ascii_byte byte = nat_lt byte 128
+
+-- each byte of the text is one of ASCII
+abbrev is_ascii_text : List ℕ → Bool
+is_ascii_text text = list_all is_ascii_byte text
 
 ascii_digit : (c : ℕ) → digit_value c < 36 → is_ascii_byte c ≡ true
 ascii_digit c h = grind (arith, nat_tests)

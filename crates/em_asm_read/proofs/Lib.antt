@@ -1,8 +1,7 @@
 pub mod Naming
-pub mod Trimming
 pub mod Listed
 pub mod Ascii
-pub mod Numbering
+pub mod NumbersInRange
 pub mod Counts
 pub mod Parting
-pub mod Reading
+pub mod OneMeaning

@@ -9,10 +9,10 @@ use Rattle.std.proofs.lemmas.List.Sums.{AllPass-from_list_all, split_at_first, p
 use Rattle.std.proofs.lemmas.List.Splits.{slice_split_none, slice_split_at, length-slice_split, join_with_byte-slice_split}
 use Rattle.std.specs.List.{All, list_all, list_any, position_or_len, before_first, after_first, slice_split, onto_first, join_with_byte}
 use denote.Ref.{Bor}
-use Rattle.em_asm_read.specs.Cutting.{operands_in, words_in, parts_in, parts_of}
+use Rattle.em_asm_read.specs.Cutting.{operands_in, statement_in, parts_in, parts_of}
 use Rattle.em_asm_read.specs.Grammar.{Words, Parts, StopsAt, AreOperands, IsStated, IsLabelled, HasParts}
-use Rattle.em_asm_read.specs.Text.{is_space, is_hash, is_colon, is_comma, has_no, trimmed, unindented}
-use Rattle.em_asm_read.proofs.Trimming.{both, both_are, prefix_len-past}
+use Rattle.em_base.specs.Text.{is_space, is_hash, is_colon, is_comma, has_no, trimmed, unindented}
+use Rattle.em_base.proofs.Trimming.{both, both_are, prefix_len-past}
 
 -- ---- a text cut at the first byte that passes a test
 
@@ -116,7 +116,7 @@ operands-alone text operands (inr p) =
 
 -- ---- statements
 
-pub words-in : (text : List ℕ) → IsStated text (words_in text)
+pub words-in : (text : List ℕ) → IsStated text (statement_in text)
 words-in text = by_length (nat_eq (length text) 0) refl
   where
     words : Words
@@ -132,8 +132,8 @@ words-in text = by_length (nat_eq (length text) 0) refl
 words-same : (m : List ℕ) (n : List ℕ) (a b : List (List ℕ)) → m ≡ n → a ≡ b → (let w : Words = record { mnemonic = m; operands = a } in w) ≡ (let w : Words = record { mnemonic = n; operands = b } in w)
 words-same m n a b e f = cc
 
-pub words-alone : (text : List ℕ) (statement : Option Words) → IsStated text statement → statement ≡ words_in text
-words-alone text None h = ap words_in (sym h)
+pub words-alone : (text : List ℕ) (statement : Option Words) → IsStated text statement → statement ≡ statement_in text
+words-alone text None h = ap statement_in (sym h)
 words-alone text (Some words) h =
     let some : nat_eq (length text) 0 ≡ false = grind (arith, nat_tests, h.0) in
     let word : words.mnemonic ≡ before_first is_space text = sym (ap (before_first is_space) h.1.1 ∙ cut-before is_space words.mnemonic h.1.0 h.1.2 h.1.3) in
@@ -207,10 +207,10 @@ has-parts line = by_colon (list_any is_colon code) refl
     code = trimmed (before_first is_hash line)
 
     labelled : Parts
-    labelled = record { label = Some (before_first is_colon code); statement = words_in (unindented (after_first is_colon code)) }
+    labelled = record { label = Some (before_first is_colon code); statement = statement_in (unindented (after_first is_colon code)) }
 
     plain : Parts
-    plain = record { label = None; statement = words_in code }
+    plain = record { label = None; statement = statement_in code }
 
     by_colon : (found : Bool) → list_any is_colon code ≡ found → HasParts line (if found then labelled else plain)
     by_colon true e = record {
@@ -237,15 +237,15 @@ has-parts line = by_colon (list_any is_colon code) refl
 label-alone : (code : List ℕ) (label : Option (List ℕ)) (statement : Option Words) (rest : List ℕ) → IsLabelled code label rest → IsStated rest statement
     → (let p : Parts = record { label = label; statement = statement } in p) ≡ parts_in code
 label-alone code None statement rest l s =
-    let said : statement ≡ words_in code = words-alone rest statement s ∙ ap words_in l.1 in
-    parts-same None None statement (words_in code) refl said
+    let said : statement ≡ statement_in code = words-alone rest statement s ∙ ap statement_in l.1 in
+    parts-same None None statement (statement_in code) refl said
     ∙ sym (ap (λ found. if found then labelled code else plain code) (no-colon code l.0))
   where
     labelled : List ℕ → Parts
-    labelled c = record { label = Some (before_first is_colon c); statement = words_in (unindented (after_first is_colon c)) }
+    labelled c = record { label = Some (before_first is_colon c); statement = statement_in (unindented (after_first is_colon c)) }
 
     plain : List ℕ → Parts
-    plain c = record { label = None; statement = words_in c }
+    plain c = record { label = None; statement = statement_in c }
 
     parts-same : (a b : Option (List ℕ)) (u v : Option Words) → a ≡ b → u ≡ v → (let p : Parts = record { label = a; statement = u } in p) ≡ (let p : Parts = record { label = b; statement = v } in p)
     parts-same a b u v e f = cc
@@ -254,15 +254,15 @@ label-alone code (Some name) statement rest l s =
     let found : list_any is_colon code ≡ true = ap (list_any is_colon) shape ∙ some-colon name l.0 in
     let before : name ≡ before_first is_colon code = sym (ap (before_first is_colon) shape ∙ cut-before is_colon name (58 ∷ l.0) l.2 refl) in
     let after : l.0 ≡ after_first is_colon code = sym (ap (after_first is_colon) shape ∙ cut-after is_colon name l.0 58 l.2 refl) in
-    let said : statement ≡ words_in (unindented (after_first is_colon code)) = words-alone rest statement s ∙ ap words_in (l.3 ∙ ap unindented after) in
-    parts-same (Some name) (Some (before_first is_colon code)) statement (words_in (unindented (after_first is_colon code))) (ap Some before) said
+    let said : statement ≡ statement_in (unindented (after_first is_colon code)) = words-alone rest statement s ∙ ap statement_in (l.3 ∙ ap unindented after) in
+    parts-same (Some name) (Some (before_first is_colon code)) statement (statement_in (unindented (after_first is_colon code))) (ap Some before) said
     ∙ sym (ap (λ f. if f then labelled code else plain code) found)
   where
     labelled : List ℕ → Parts
-    labelled c = record { label = Some (before_first is_colon c); statement = words_in (unindented (after_first is_colon c)) }
+    labelled c = record { label = Some (before_first is_colon c); statement = statement_in (unindented (after_first is_colon c)) }
 
     plain : List ℕ → Parts
-    plain c = record { label = None; statement = words_in c }
+    plain c = record { label = None; statement = statement_in c }
 
     parts-same : (a b : Option (List ℕ)) (u v : Option Words) → a ≡ b → u ≡ v → (let p : Parts = record { label = a; statement = u } in p) ≡ (let p : Parts = record { label = b; statement = v } in p)
     parts-same a b u v e f = cc
@@ -286,7 +286,7 @@ trimmed-each (piece ∷ pieces) = ap (λ t. trimmed piece.now ∷ t) (trimmed-ea
 -- the words of a text that isn't empty
 pub some-words : (text word : List ℕ) (operands : List (List ℕ)) → nat_eq (length text) 0 ≡ false → word ≡ before_first is_space text
     → operands ≡ operands_in (unindented (drop (position_or_len is_space text) text))
-    → Some (let w : Words = record { mnemonic = word; operands = operands } in w) ≡ words_in text
+    → Some (let w : Words = record { mnemonic = word; operands = operands } in w) ≡ statement_in text
 some-words text word operands some e f =
     ap Some (words-same word (before_first is_space text) operands (operands_in (unindented (drop (position_or_len is_space text) text))) e f)
     ∙ sym (ap (λ none. if none then None else Some (let w : Words = record { mnemonic = before_first is_space text; operands = operands_in (unindented (drop (position_or_len is_space text) text)) } in w)) some)

@@ -1,5 +1,7 @@
 -- What may be wrong with a line, and the codes of that: this project's own.
 use Rattle.std.specs.Prelude.{◌≡◌, ℕ, ⊤, Option, Some, None, Result, Ok, Err}
+use Rattle.em_base.specs.declared.refusals.Fail.{Fail}
+use Rattle.em_base.specs.declared.refusals.Fail.TheVariants.{Refused, NoMemory as OutOfMemory}
 use Rattle.em_asm_read.specs.declared.faults.Fault.{Fault}
 use Rattle.em_asm_read.specs.declared.faults.Fault.TheVariants.{Mnemonic, Operands, Register, Number, Label}
 use Rattle.em_asm_read.specs.declared.faults.LineFail.{LineFail}
@@ -27,3 +29,8 @@ then_read (Err fault) next = Err fault
 abbrev pub FailsAs : {X : Type 0} → Result X Fault → LineFail → Type 0
 FailsAs {X} found (Code code) = (fault : Fault) × (found ≡ Err fault) × (code ≡ code_of fault)
 FailsAs {X} found NoMemory = ⊤
+
+-- the failure to read a line, as that of a whole input whose line of this number it is
+abbrev pub fail_at : LineFail → ℕ → Fail
+fail_at (Code code) line = Refused (record { code = code; line = line })
+fail_at NoMemory line = OutOfMemory

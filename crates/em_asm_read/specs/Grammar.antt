@@ -3,7 +3,7 @@
 -- This project's own.
 use Rattle.std.specs.Prelude.{◌≡◌, ℕ, ◌<◌, ◌⊎◌, ⊤, Bool, IsTrue, List, [], ◌∷◌, ◌++◌, length, map, Option, Some, None, codes}
 use Rattle.std.specs.List.{join_with_byte, list_all}
-use Rattle.em_asm_read.specs.Text.{is_space, is_hash, is_colon, is_comma, has_no, HasNo, trimmed, unindented}
+use Rattle.em_base.specs.Text.{is_space, is_hash, is_colon, is_comma, has_no, HasNo, trimmed, unindented}
 
 -- a statement: its mnemonic and its operands, as texts
 pub record Words : Type 0 where

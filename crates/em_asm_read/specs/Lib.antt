@@ -1,8 +1,6 @@
-pub mod Text
 pub mod Registers
 pub mod Mnemonics
 pub mod Labels
-pub mod Numbers
 pub mod Faults
 pub mod Operands
 pub mod Statements

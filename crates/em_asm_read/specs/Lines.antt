@@ -27,27 +27,27 @@ is_word Word = true
 is_word _ = false
 
 -- what the statement of a line says, in a line with a label or in one without
-abbrev pub said_by : Bool → Option Words → Result Item Fault
-said_by labelled None = Ok Nothing
-said_by labelled (Some words) =
+abbrev pub statement_meaning : Bool → Option Words → Result Item Fault
+statement_meaning labelled None = Ok Nothing
+statement_meaning labelled (Some words) =
     then_read (found_or BadMnemonic (mnemonic_of words.mnemonic))
     (λ mnemonic. if labelled && is_word mnemonic then Err BadLabel else statement mnemonic words.operands)
 
 -- what a line with these parts says
-abbrev pub said : Parts → Result Line Fault
-said parts =
+abbrev pub meaning_of : Parts → Result Line Fault
+meaning_of parts =
     if is_misspelled parts.label then Err BadLabel
-    else then_read (said_by (is_some parts.label) parts.statement) (λ item. Ok (record { label = parts.label; item = item }))
+    else then_read (statement_meaning (is_some parts.label) parts.statement) (λ item. Ok (record { label = parts.label; item = item }))
 
 -- the text is a line that says this
 abbrev pub IsLine : List ℕ → Line → Type 0
-IsLine text line = (parts : Parts) × HasParts text parts × (said parts ≡ Ok line)
+IsLine text line = (parts : Parts) × HasParts text parts × (meaning_of parts ≡ Ok line)
 
 -- the text is a line whose first fault has this code
 abbrev pub IsFaulty : List ℕ → ℕ → Type 0
-IsFaulty text code = (parts : Parts) × HasParts text parts × ((fault : Fault) × (said parts ≡ Err fault) × (code ≡ code_of fault))
+IsFaulty text code = (parts : Parts) × HasParts text parts × ((fault : Fault) × (meaning_of parts ≡ Err fault) × (code ≡ code_of fault))
 
 -- the code is that of the line's first fault; want of memory needs no cause
-abbrev pub IsFailOf : List ℕ → LineFail → Type 0
-IsFailOf text (Code code) = IsFaulty text code
-IsFailOf text NoMemory = ⊤
+abbrev pub IsLineFail : List ℕ → LineFail → Type 0
+IsLineFail text (Code code) = IsFaulty text code
+IsLineFail text NoMemory = ⊤

@@ -8,9 +8,9 @@ use Rattle.em_asm_read.specs.declared.items.Target.{Target}
 use Rattle.em_asm_read.specs.declared.items.Target.TheVariants.{Label, Offset}
 use Rattle.em_asm_read.specs.Faults.{found_or, then_read}
 use Rattle.em_asm_read.specs.Labels.{is_label}
-use Rattle.em_asm_read.specs.Numbers.{number_of}
+use Rattle.em_base.specs.Number.{written_number}
 use Rattle.em_asm_read.specs.Registers.{register_of}
-use Rattle.em_asm_read.specs.Text.{has_space, is_opening, trimmed}
+use Rattle.em_base.specs.Text.{has_space, is_opening, trimmed}
 
 -- ---- registers and numbers
 
@@ -24,7 +24,7 @@ in_range low high number = if int_le low number && int_le number high then Ok nu
 
 -- the number that the text writes, from low to high
 abbrev pub ranged_number : ℤ → ℤ → List ℕ → Result ℤ Fault
-ranged_number low high text = then_read (found_or Number (number_of text)) (in_range low high)
+ranged_number low high text = then_read (found_or Number (written_number text)) (in_range low high)
 
 -- an operand that is a register. A space or a tab inside an operand stands where a comma is missing.
 abbrev pub register_operand : List ℕ → Result ℕ Fault
@@ -45,22 +45,22 @@ address_parts text =
     else None
 
 -- an immediate of 12 bits and a register
-abbrev pub placed : List ℕ × List ℕ → Result (ℤ × ℕ) Fault
-placed parts = then_read (ranged_number (negsuc 2047) (pos 2047) parts.0) (λ imm. then_read (named_register parts.1) (λ rs1. Ok (imm, rs1)))
+abbrev pub address_in : List ℕ × List ℕ → Result (ℤ × ℕ) Fault
+address_in parts = then_read (ranged_number (negsuc 2047) (pos 2047) parts.0) (λ imm. then_read (named_register parts.1) (λ rs1. Ok (imm, rs1)))
 
 -- the same, where neither part has a space or a tab inside it
-abbrev pub wholly_placed : List ℕ × List ℕ → Result (ℤ × ℕ) Fault
-wholly_placed parts = if has_space parts.0 || has_space parts.1 then Err Operands else placed parts
+abbrev pub whole_address : List ℕ × List ℕ → Result (ℤ × ℕ) Fault
+whole_address parts = if has_space parts.0 || has_space parts.1 then Err Operands else address_in parts
 
 -- an operand that is an address: its shape is looked at first, then its number, then its register
 abbrev pub address_operand : List ℕ → Result (ℤ × ℕ) Fault
-address_operand text = then_read (found_or Operands (address_parts text)) wholly_placed
+address_operand text = then_read (found_or Operands (address_parts text)) whole_address
 
 -- ---- targets
 
 -- the offset, where it is even
-abbrev pub even : ℤ → Result ℤ Fault
-even offset = if nat_eq (unsigned_abs offset % 2) 0 then Ok offset else Err Number
+abbrev pub even_offset : ℤ → Result ℤ Fault
+even_offset offset = if nat_eq (unsigned_abs offset % 2) 0 then Ok offset else Err Number
 
 -- whether the text begins with a digit or a minus sign, as numbers do
 abbrev pub looks_numeric : List ℕ → Bool
@@ -68,15 +68,15 @@ looks_numeric text = is_digit (slice_index text 0) 10 || nat_eq (slice_index tex
 
 -- the offset that the text writes: an even number from low to high
 abbrev pub offset : ℤ → ℤ → List ℕ → Result ℤ Fault
-offset low high text = then_read (ranged_number low high text) even
+offset low high text = then_read (ranged_number low high text) even_offset
 
 -- a label, or an offset
-abbrev pub aimed : ℤ → ℤ → List ℕ → Result Target Fault
-aimed low high text =
+abbrev pub target_in : ℤ → ℤ → List ℕ → Result Target Fault
+target_in low high text =
     if is_label text then Ok (Label text)
     else if looks_numeric text then then_read (offset low high text) (λ z. Ok (Offset z))
     else Err BadLabel
 
 -- an operand that is a target
 abbrev pub target_operand : ℤ → ℤ → List ℕ → Result Target Fault
-target_operand low high text = if has_space text then Err Operands else aimed low high text
+target_operand low high text = if has_space text then Err Operands else target_in low high text

@@ -1,9 +1,9 @@
 //! What may be wrong with a line of assembly.
 ghost use Rattle.std.specs.Prelude.{◌≡◌};
-ghost use Rattle.em_asm_read.specs.Faults.{code_of};
+ghost use Rattle.em_asm_read.specs.Faults.{code_of, fail_at};
 ghost use Rattle.em_asm_read.specs.declared.faults.LineFail.TheVariants.{Code, NoMemory as OutOfMemory};
 
-use em_base::NoMemory;
+use em_base::{Fail, NoMemory, Refusal};
 use std::alloc::AllocError;
 use thiserror::Error;
 
@@ -46,6 +46,18 @@ impl Fault {
             Fault::Register => 3,
             Fault::Number => 4,
             Fault::Label => 5,
+        }
+    }
+}
+
+impl LineFail {
+    /// The failure of a whole input whose line of this number is not read.
+    pub fn at(self, line: u32) -> Fail
+        ensures { result ≡ fail_at self line }
+    {
+        match self {
+            LineFail::Code(code) => Fail::Refused(Refusal { code, line }),
+            LineFail::NoMemory => Fail::NoMemory,
         }
     }
 }

@@ -33,7 +33,8 @@ fn are_label_bytes(text: &[u8]) -> bool
 
 /// The label that the text names.
 pub fn label(text: &[u8]) -> Option<&str>
-    ensures { MatchOption result (spec.is_label text.now ≡ false) (λ name. (spec.is_label text.now ≡ true) × (name.now ≡ text.now)) }
+    ensures { MatchOption result (spec.is_label text.now ≡ false)
+        (λ name. (spec.is_label text.now ≡ true) × (name.now ≡ text.now)) }
 {
     if !is_label(text) {
         return None;

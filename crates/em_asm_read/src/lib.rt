@@ -1,20 +1,19 @@
 //! Lines of assembly read: what a line of the assembly language says, or the first fault in it.
 #![tactic(auto)]
 
-pub mod faults;
-pub mod items;
-pub mod labels;
-pub mod laws;
-pub mod lines;
-pub mod mnemonics;
-pub mod operands;
-pub mod pieces;
-pub mod registers;
-pub mod statements;
+mod faults;
+mod items;
+mod labels;
+mod laws;
+mod lines;
+mod mnemonics;
+mod operands;
+mod registers;
+mod statements;
 #[cfg(test)]
 mod tests;
 
 pub use faults::LineFail;
 pub use items::{Item, Line, Target};
-pub use laws::{one_meaning, written_numbers};
+pub use laws::one_meaning;
 pub use lines::read_line;

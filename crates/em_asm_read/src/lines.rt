@@ -1,19 +1,18 @@
 //! A line of assembly read.
 ghost use Rattle.std.specs.Prelude.{◌≡◌, Ok, map, IfOk, IfErr};
 ghost use Rattle.em_asm_read.specs.Fitting.{ItemFits, LineFits};
-ghost use Rattle.em_asm_read.specs.Cutting.{operands_in, parts_in, words_in};
+ghost use Rattle.em_asm_read.specs.Cutting.{labelled_parts, operands_in, parts_in, statement_in};
 ghost use Rattle.em_asm_read.specs.Faults.{FailsAs};
-ghost use Rattle.em_asm_read.specs.Lines.{IsFailOf, IsLine, said_by};
-ghost use Rattle.em_asm_read.specs.Lines as spec;
-ghost use Rattle.em_asm_read.specs.Text.{trimmed};
+ghost use Rattle.em_asm_read.specs.Lines.{IsLineFail, IsLine, meaning_of, statement_meaning};
+ghost use Rattle.em_base.specs.Text.{texts_of, trimmed};
 
 use crate::faults::{Fault, LineFail};
 use crate::items::{Item, Line};
 use crate::labels::label;
 use crate::mnemonics::{Mnemonic, mnemonic_named};
-use crate::pieces::{after, before, has, skip_blanks, split_at_commas, split_word, trim};
 use crate::statements::statement;
 use em_base::Name;
+use em_base::pieces::{after, before, has, skip_blanks, split_at_commas, split_word, trim};
 use std::alloc::{AllocError, Global};
 
 /// What a line of assembly says: `[label:] [statement] [# comment]`, as docs/FORMATS.md describes it.
@@ -22,16 +21,16 @@ use std::alloc::{AllocError, Global};
 /// then the operands from the left. `NoMemory` where memory could not be had.
 pub fn read_line(alloc: Global, text: &str) -> Result<Line, LineFail>
     ensures read { IfOk result (IsLine text.now) }
-    ensures refused { IfErr result (IsFailOf text.now) }
+    ensures refused { IfErr result (IsLineFail text.now) }
     ensures fits { IfOk result LineFits }
 {
-    read_code(alloc, trim(before(text.as_bytes(), b'#')))
+    read_trimmed_line(alloc, trim(before(text.as_bytes(), b'#')))
 }
 
 /// What a line says, by what stands before its comment, without the spaces and tabs around it.
-fn read_code(alloc: Global, code: &[u8]) -> Result<Line, LineFail>
-    ensures read { IfOk result (λ line. spec.said (parts_in code.now) ≡ Ok line) }
-    ensures refused { IfErr result (FailsAs (spec.said (parts_in code.now))) }
+fn read_trimmed_line(alloc: Global, code: &[u8]) -> Result<Line, LineFail>
+    ensures read { IfOk result (λ line. meaning_of (parts_in code.now) ≡ Ok line) }
+    ensures refused { IfErr result (FailsAs (meaning_of (parts_in code.now))) }
     ensures fits { IfOk result LineFits }
 {
     if has(code, b':') {
@@ -43,8 +42,8 @@ fn read_code(alloc: Global, code: &[u8]) -> Result<Line, LineFail>
 
 /// What a line says that has a label, by what stands before the colon and what follows it.
 fn labelled_line(alloc: Global, name: &[u8], rest: &[u8]) -> Result<Line, LineFail>
-    ensures read { IfOk result (λ line. spec.said (record { label = Some name.now; statement = words_in rest.now }) ≡ Ok line) }
-    ensures refused { IfErr result (FailsAs (spec.said (record { label = Some name.now; statement = words_in rest.now }))) }
+    ensures read { IfOk result (λ line. meaning_of (labelled_parts name.now rest.now) ≡ Ok line) }
+    ensures refused { IfErr result (FailsAs (meaning_of (labelled_parts name.now rest.now))) }
     ensures fits { IfOk result LineFits }
 {
     match label(name) {
@@ -62,8 +61,9 @@ fn labelled_line(alloc: Global, name: &[u8], rest: &[u8]) -> Result<Line, LineFa
 
 /// What a statement says, in a line with a label or in one without.
 fn read_statement(alloc: Global, labelled: bool, text: &[u8]) -> Result<Item, LineFail>
-    ensures read { IfOk result (λ item. said_by labelled (words_in text.now) ≡ Ok item) }
-    ensures refused { IfErr result (FailsAs (said_by labelled (words_in text.now))) }
+    ensures read { IfOk result (λ item.
+        statement_meaning labelled (statement_in text.now) ≡ Ok item) }
+    ensures refused { IfErr result (FailsAs (statement_meaning labelled (statement_in text.now))) }
     ensures fits { IfOk result ItemFits }
 {
     if text.is_empty() {
@@ -71,13 +71,22 @@ fn read_statement(alloc: Global, labelled: bool, text: &[u8]) -> Result<Item, Li
     }
     let (word, rest) = split_word(text);
     let operands = split_operands(alloc, skip_blanks(rest))?;
-    said(alloc, labelled, word, operands.as_slice())
+    read_words(alloc, labelled, word, operands.as_slice())
 }
 
 /// What a statement says, by its mnemonic and its operands.
-fn said(alloc: Global, labelled: bool, word: &[u8], operands: &[&[u8]]) -> Result<Item, LineFail>
-    ensures read { IfOk result (λ item. said_by labelled (Some record { mnemonic = word.now; operands = map (λ text. text.now) operands.now }) ≡ Ok item) }
-    ensures refused { IfErr result (FailsAs (said_by labelled (Some record { mnemonic = word.now; operands = map (λ text. text.now) operands.now }))) }
+fn read_words(
+    alloc: Global,
+    labelled: bool,
+    word: &[u8],
+    operands: &[&[u8]],
+) -> Result<Item, LineFail>
+    ensures read { let texts = texts_of operands.now in
+        let words = Some record { mnemonic = word.now; operands = texts } in
+        IfOk result (λ item. statement_meaning labelled words ≡ Ok item) }
+    ensures refused { let texts = texts_of operands.now in
+        let words = Some record { mnemonic = word.now; operands = texts } in
+        IfErr result (FailsAs (statement_meaning labelled words)) }
     ensures fits { IfOk result ItemFits }
 {
     match mnemonic_named(word) {
@@ -93,7 +102,7 @@ fn said(alloc: Global, labelled: bool, word: &[u8], operands: &[&[u8]]) -> Resul
 
 /// The operands, which stand between commas: none in an empty text.
 fn split_operands<'a>(alloc: Global, text: &'a [u8]) -> Result<Vec<&'a [u8]>, AllocError>
-    ensures { IfOk result (λ operands. map (λ operand. operand.now) operands.items ≡ operands_in text.now) }
+    ensures { IfOk result (λ operands. texts_of operands.items ≡ operands_in text.now) }
 {
     if text.is_empty() {
         return Ok(Vec::new(alloc));
@@ -103,7 +112,8 @@ fn split_operands<'a>(alloc: Global, text: &'a [u8]) -> Result<Vec<&'a [u8]>, Al
 
 /// The pieces without the spaces and tabs around them.
 fn trimmed_pieces<'a>(alloc: Global, pieces: &[&'a [u8]]) -> Result<Vec<&'a [u8]>, AllocError>
-    ensures { IfOk result (λ operands. map (λ operand. operand.now) operands.items ≡ map trimmed (map (λ piece. piece.now) pieces.now)) }
+    ensures { IfOk result (λ operands.
+        texts_of operands.items ≡ map trimmed (texts_of pieces.now)) }
 {
     pieces.iter().map(|piece| trim(*piece)).collect(alloc)
 }

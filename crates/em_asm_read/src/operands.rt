@@ -10,8 +10,8 @@ ghost use Rattle.em_asm_read.specs.Fitting.{IsAimed};
 use crate::faults::{Fault, LineFail};
 use crate::items::Target;
 use crate::labels::label;
-use crate::pieces::{after, before, has, has_blank, trim};
 use crate::registers::register;
+use em_base::pieces::{after, before, has, has_blank, trim};
 use em_base::{Name, read_number};
 use std::alloc::Global;
 use std::str;
@@ -83,7 +83,8 @@ pub fn number_operand(text: &[u8], low: i128, high: i128) -> Result<i128, Fault>
 /// What stands before the first opening parenthesis, and what stands between it and the closing one at the end, both
 /// without the spaces and tabs around them.
 fn split_address(text: &[u8]) -> Option<(&[u8], &[u8])>
-    ensures { option_map (λ parts. (parts.0.now, parts.1.now)) result ≡ spec.address_parts text.now }
+    ensures { option_map (λ parts. (parts.0.now, parts.1.now)) result
+        ≡ spec.address_parts text.now }
 {
     if has(text, b'(') && text[text.len() - 1] == b')' {
         Some((
@@ -105,18 +106,20 @@ fn without_last(text: &[u8]) -> &[u8]
 /// An operand that is an address: an immediate of 12 bits, with a register in parentheses.
 pub fn address_operand(text: &[u8]) -> Result<(i32, u8), Fault>
     ensures value { result ≡ spec.address_operand text.now }
-    ensures within { IfOk result (λ address. (negsuc 2047 ≤ℤ address.0) × (address.0 ≤ℤ pos 2047) × (address.1 < 32)) }
+    ensures within { IfOk result (λ found.
+        (negsuc 2047 ≤ℤ found.0) × (found.0 ≤ℤ pos 2047) × (found.1 < 32)) }
 {
     match split_address(text) {
-        Some((number, register)) => placed(number, register),
+        Some((number, register)) => address_in(number, register),
         None => Err(Fault::Operands),
     }
 }
 
 /// The immediate and the register of an address.
-fn placed(number: &[u8], register: &[u8]) -> Result<(i32, u8), Fault>
-    ensures value { result ≡ spec.wholly_placed (number.now, register.now) }
-    ensures within { IfOk result (λ address. (negsuc 2047 ≤ℤ address.0) × (address.0 ≤ℤ pos 2047) × (address.1 < 32)) }
+fn address_in(number: &[u8], register: &[u8]) -> Result<(i32, u8), Fault>
+    ensures value { result ≡ spec.whole_address (number.now, register.now) }
+    ensures within { IfOk result (λ found.
+        (negsuc 2047 ≤ℤ found.0) × (found.0 ≤ℤ pos 2047) × (found.1 < 32)) }
 {
     if has_blank(number) || has_blank(register) {
         return Err(Fault::Operands);
@@ -127,8 +130,8 @@ fn placed(number: &[u8], register: &[u8]) -> Result<(i32, u8), Fault>
 }
 
 /// The offset, where it is even.
-fn even(offset: i128) -> Result<i128, Fault>
-    ensures value { result ≡ spec.even offset }
+fn even_offset(offset: i128) -> Result<i128, Fault>
+    ensures value { result ≡ spec.even_offset offset }
     ensures even { IfOk result (λ z. (z ≡ offset) × (unsigned_abs z % 2 ≡ 0)) }
 {
     if offset % 2 == 0 {
@@ -154,7 +157,7 @@ fn offset(text: &[u8], low: i32, high: i32) -> Result<i32, Fault>
     ensures within { IfOk result (λ z. (low ≤ℤ z) × (z ≤ℤ high) × (unsigned_abs z % 2 ≡ 0)) }
 {
     let offset = ranged_number(text, i128::from(low), i128::from(high))?;
-    Ok(even(offset)? as i32)
+    Ok(even_offset(offset)? as i32)
 }
 
 /// An operand that is a target: a label, or an even offset from `low` to `high`.

@@ -1,6 +1,7 @@
 //! Statements, by their mnemonics and their operands.
-ghost use Rattle.std.specs.Prelude.{◌≡◌, ◌<◌, ◌^◌, map, Ok, IfOk, IfErr};
+ghost use Rattle.std.specs.Prelude.{◌≡◌, ◌<◌, ◌^◌, Ok, IfOk, IfErr};
 ghost use Rattle.std.specs.Bool.{MatchBool};
+ghost use Rattle.em_base.specs.Text.{texts_of};
 ghost use Rattle.em_isa.specs.Encoding.{Fits, IsImmediate, IsShiftAmount, is_shift};
 ghost use Rattle.em_asm_read.specs.Faults.{FailsAs};
 ghost use Rattle.em_asm_read.specs.Fitting.{ItemFits, MnemonicFits};
@@ -39,7 +40,7 @@ const RETURN: Instr = Instr::Jalr {
 /// An operation over two registers: `rd, rs1, rs2`.
 fn operation(op: u8, alt: bool, operands: &[&[u8]]) -> Result<Instr, Fault>
     requires { MnemonicFits (Mnemonic.Operation op alt) }
-    ensures value { result ≡ spec.operation op alt (map (λ text. text.now) operands.now) }
+    ensures value { result ≡ spec.operation op alt (texts_of operands.now) }
     ensures fits { IfOk result Fits }
 {
     let [rd, rs1, rs2] = operands else {
@@ -69,7 +70,7 @@ fn immediate_operand(op: u8, text: &[u8]) -> Result<i128, Fault>
 /// An operation over a register and an immediate: `rd, rs1, imm`.
 fn immediate(op: u8, alt: bool, operands: &[&[u8]]) -> Result<Instr, Fault>
     requires { MnemonicFits (Mnemonic.Immediate op alt) }
-    ensures value { result ≡ spec.immediate op alt (map (λ text. text.now) operands.now) }
+    ensures value { result ≡ spec.immediate op alt (texts_of operands.now) }
     ensures fits { IfOk result Fits }
 {
     let [rd, rs1, imm] = operands else {
@@ -87,7 +88,7 @@ fn immediate(op: u8, alt: bool, operands: &[&[u8]]) -> Result<Instr, Fault>
 /// A load: `rd, imm(rs1)`.
 fn load(op: u8, operands: &[&[u8]]) -> Result<Instr, Fault>
     requires { MnemonicFits (Mnemonic.Load op) }
-    ensures value { result ≡ spec.load op (map (λ text. text.now) operands.now) }
+    ensures value { result ≡ spec.load op (texts_of operands.now) }
     ensures fits { IfOk result Fits }
 {
     let [rd, address] = operands else {
@@ -101,7 +102,7 @@ fn load(op: u8, operands: &[&[u8]]) -> Result<Instr, Fault>
 /// A store: `rs2, imm(rs1)`.
 fn store(op: u8, operands: &[&[u8]]) -> Result<Instr, Fault>
     requires { MnemonicFits (Mnemonic.Store op) }
-    ensures value { result ≡ spec.store op (map (λ text. text.now) operands.now) }
+    ensures value { result ≡ spec.store op (texts_of operands.now) }
     ensures fits { IfOk result Fits }
 {
     let [rs2, address] = operands else {
@@ -114,7 +115,7 @@ fn store(op: u8, operands: &[&[u8]]) -> Result<Instr, Fault>
 
 /// `jalr`: `rd, imm(rs1)`.
 fn jump_register(operands: &[&[u8]]) -> Result<Instr, Fault>
-    ensures value { result ≡ spec.jump_register (map (λ text. text.now) operands.now) }
+    ensures value { result ≡ spec.jump_register (texts_of operands.now) }
     ensures fits { IfOk result Fits }
 {
     let [rd, address] = operands else {
@@ -127,7 +128,7 @@ fn jump_register(operands: &[&[u8]]) -> Result<Instr, Fault>
 
 /// The operands of `lui` and `auipc`: `rd, n`, with an n below 2^20.
 fn upper(operands: &[&[u8]]) -> Result<(u8, u32), Fault>
-    ensures value { result ≡ spec.upper (map (λ text. text.now) operands.now) }
+    ensures value { result ≡ spec.upper (texts_of operands.now) }
     ensures within { IfOk result (λ found. (found.0 < 32) × (found.1 < 2 ^ 20)) }
 {
     let [rd, n] = operands else {
@@ -140,7 +141,7 @@ fn upper(operands: &[&[u8]]) -> Result<(u8, u32), Fault>
 
 /// `lui`.
 fn load_upper(operands: &[&[u8]]) -> Result<Instr, Fault>
-    ensures value { result ≡ spec.load_upper (map (λ text. text.now) operands.now) }
+    ensures value { result ≡ spec.load_upper (texts_of operands.now) }
     ensures fits { IfOk result Fits }
 {
     let (rd, imm) = upper(operands)?;
@@ -149,7 +150,7 @@ fn load_upper(operands: &[&[u8]]) -> Result<Instr, Fault>
 
 /// `auipc`.
 fn add_upper(operands: &[&[u8]]) -> Result<Instr, Fault>
-    ensures value { result ≡ spec.add_upper (map (λ text. text.now) operands.now) }
+    ensures value { result ≡ spec.add_upper (texts_of operands.now) }
     ensures fits { IfOk result Fits }
 {
     let (rd, imm) = upper(operands)?;
@@ -158,7 +159,7 @@ fn add_upper(operands: &[&[u8]]) -> Result<Instr, Fault>
 
 /// `mv`: `rd, rs`, an addition of 0.
 fn copy(operands: &[&[u8]]) -> Result<Instr, Fault>
-    ensures value { result ≡ spec.copy (map (λ text. text.now) operands.now) }
+    ensures value { result ≡ spec.copy (texts_of operands.now) }
     ensures fits { IfOk result Fits }
 {
     let [rd, rs] = operands else {
@@ -178,7 +179,7 @@ fn copy(operands: &[&[u8]]) -> Result<Instr, Fault>
 /// An instruction without operands.
 fn alone(instruction: Instr, operands: &[&[u8]]) -> Result<Instr, Fault>
     requires { Fits instruction }
-    ensures value { result ≡ spec.alone instruction (map (λ text. text.now) operands.now) }
+    ensures value { result ≡ spec.alone instruction (texts_of operands.now) }
     ensures fits { IfOk result Fits }
 {
     if operands.is_empty() {
@@ -191,8 +192,8 @@ fn alone(instruction: Instr, operands: &[&[u8]]) -> Result<Instr, Fault>
 /// A branch: `rs1, rs2, target`.
 fn branch(alloc: Global, op: u8, operands: &[&[u8]]) -> Result<Item, LineFail>
     requires { MnemonicFits (Mnemonic.Branch op) }
-    ensures value { IfOk result (λ item. spec.branch op (map (λ text. text.now) operands.now) ≡ Ok item) }
-    ensures refused { IfErr result (FailsAs (spec.branch op (map (λ text. text.now) operands.now))) }
+    ensures value { IfOk result (λ item. spec.branch op (texts_of operands.now) ≡ Ok item) }
+    ensures refused { IfErr result (FailsAs (spec.branch op (texts_of operands.now))) }
     ensures fits { IfOk result ItemFits }
 {
     let [rs1, rs2, target] = operands else {
@@ -211,8 +212,8 @@ fn branch(alloc: Global, op: u8, operands: &[&[u8]]) -> Result<Item, LineFail>
 
 /// `jal`: `rd, target`.
 fn jump(alloc: Global, operands: &[&[u8]]) -> Result<Item, LineFail>
-    ensures value { IfOk result (λ item. spec.jump (map (λ text. text.now) operands.now) ≡ Ok item) }
-    ensures refused { IfErr result (FailsAs (spec.jump (map (λ text. text.now) operands.now))) }
+    ensures value { IfOk result (λ item. spec.jump (texts_of operands.now) ≡ Ok item) }
+    ensures refused { IfErr result (FailsAs (spec.jump (texts_of operands.now))) }
     ensures fits { IfOk result ItemFits }
 {
     let [rd, target] = operands else {
@@ -225,8 +226,8 @@ fn jump(alloc: Global, operands: &[&[u8]]) -> Result<Item, LineFail>
 
 /// `j`: `target`, a jump that keeps no address.
 fn plain_jump(alloc: Global, operands: &[&[u8]]) -> Result<Item, LineFail>
-    ensures value { IfOk result (λ item. spec.plain_jump (map (λ text. text.now) operands.now) ≡ Ok item) }
-    ensures refused { IfErr result (FailsAs (spec.plain_jump (map (λ text. text.now) operands.now))) }
+    ensures value { IfOk result (λ item. spec.plain_jump (texts_of operands.now) ≡ Ok item) }
+    ensures refused { IfErr result (FailsAs (spec.plain_jump (texts_of operands.now))) }
     ensures fits { IfOk result ItemFits }
 {
     let [target] = operands else {
@@ -258,7 +259,7 @@ fn unsigned_operand(text: &[u8]) -> Result<u32, Fault>
 
 /// `li`: `rd, n`.
 fn load_number(operands: &[&[u8]]) -> Result<Item, Fault>
-    ensures value { result ≡ spec.load_number (map (λ text. text.now) operands.now) }
+    ensures value { result ≡ spec.load_number (texts_of operands.now) }
     ensures fits { IfOk result ItemFits }
 {
     let [rd, n] = operands else {
@@ -271,7 +272,7 @@ fn load_number(operands: &[&[u8]]) -> Result<Item, Fault>
 
 /// `waitjob`: a semaphore, or nothing.
 fn wait(operands: &[&[u8]]) -> Result<Item, Fault>
-    ensures value { result ≡ spec.wait (map (λ text. text.now) operands.now) }
+    ensures value { result ≡ spec.wait (texts_of operands.now) }
     ensures fits { IfOk result ItemFits }
 {
     match operands {
@@ -283,7 +284,7 @@ fn wait(operands: &[&[u8]]) -> Result<Item, Fault>
 
 /// `.code`: a number.
 fn raw(operands: &[&[u8]]) -> Result<Item, Fault>
-    ensures value { result ≡ spec.raw (map (λ text. text.now) operands.now) }
+    ensures value { result ≡ spec.raw (texts_of operands.now) }
     ensures fits { IfOk result ItemFits }
 {
     let [n] = operands else {
@@ -294,7 +295,7 @@ fn raw(operands: &[&[u8]]) -> Result<Item, Fault>
 
 /// `.word`: a number.
 fn shared_word(operands: &[&[u8]]) -> Result<Item, Fault>
-    ensures value { result ≡ spec.shared_word (map (λ text. text.now) operands.now) }
+    ensures value { result ≡ spec.shared_word (texts_of operands.now) }
     ensures fits { IfOk result ItemFits }
 {
     let [n] = operands else {
@@ -314,7 +315,7 @@ fn one(instruction: Result<Instr, Fault>) -> Result<Item, LineFail>
 }
 
 /// The item, or the failure of its line.
-fn found(item: Result<Item, Fault>) -> Result<Item, LineFail>
+fn item_or_fail(item: Result<Item, Fault>) -> Result<Item, LineFail>
     requires { IfOk item ItemFits }
     ensures value { IfOk result (λ found. item ≡ Ok found) }
     ensures refused { IfErr result (FailsAs item) }
@@ -326,8 +327,9 @@ fn found(item: Result<Item, Fault>) -> Result<Item, LineFail>
 /// What a statement says, by its mnemonic and its operands. Refused as [`crate::read_line`] refuses them.
 pub fn statement(alloc: Global, mnemonic: Mnemonic, operands: &[&[u8]]) -> Result<Item, LineFail>
     requires { MnemonicFits mnemonic }
-    ensures value { IfOk result (λ item. spec.statement mnemonic (map (λ text. text.now) operands.now) ≡ Ok item) }
-    ensures refused { IfErr result (FailsAs (spec.statement mnemonic (map (λ text. text.now) operands.now))) }
+    ensures value { let texts = texts_of operands.now in
+        IfOk result (λ item. spec.statement mnemonic texts ≡ Ok item) }
+    ensures refused { IfErr result (FailsAs (spec.statement mnemonic (texts_of operands.now))) }
     ensures fits { IfOk result ItemFits }
 {
     match mnemonic {
@@ -347,9 +349,9 @@ pub fn statement(alloc: Global, mnemonic: Mnemonic, operands: &[&[u8]]) -> Resul
         Mnemonic::Mv => one(copy(operands)),
         Mnemonic::J => plain_jump(alloc, operands),
         Mnemonic::Ret => one(alone(RETURN, operands)),
-        Mnemonic::Li => found(load_number(operands)),
-        Mnemonic::WaitJob => found(wait(operands)),
-        Mnemonic::Code => found(raw(operands)),
-        Mnemonic::Word => found(shared_word(operands)),
+        Mnemonic::Li => item_or_fail(load_number(operands)),
+        Mnemonic::WaitJob => item_or_fail(wait(operands)),
+        Mnemonic::Code => item_or_fail(raw(operands)),
+        Mnemonic::Word => item_or_fail(shared_word(operands)),
     }
 }

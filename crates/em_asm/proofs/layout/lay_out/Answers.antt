@@ -1,6 +1,6 @@
 use Rattle.std.proofs.Common.{◌∙◌, ap, arith, refl, sym}
 use Rattle.em_asm.specs.Image.{label_at, layout_fault}
-use Rattle.em_asm.specs.Kept.{labels_in}
+use Rattle.em_asm.specs.Coding.{labels_in}
 use Rattle.em_asm.proofs.Gathered.{gather-nil, line-here}
 use Rattle.em_asm.proofs.Layouts.{clear-next, fault-here, stands-next}
 use Rattle.em_asm.proofs.layout.lay_out.Goals as goal
@@ -25,5 +25,5 @@ loop-place-preserved c =
       stands = stands-next lines i _ _ _ _ _ _ c.index-lines-place.result c.loop-place-test.true c.loop-place.invariant.stands here (c.in_ok-fault.ensures.labels none) code.0 shared.0;
       few = code.1;
       room = shared.1;
-      clear = clear-next layout_fault lines i c.loop-place.invariant.clear (fault-here lines i _ _ _ c.index-lines-place.result _ c.loop-place.invariant.stands here c.in_ok-fault.ensures.fault ∙ none);
+      clear = clear-next layout_fault lines i c.loop-place-test.true c.loop-place.invariant.clear (fault-here lines i _ _ _ c.index-lines-place.result _ c.loop-place.invariant.stands here c.in_ok-fault.ensures.fault ∙ none);
     }

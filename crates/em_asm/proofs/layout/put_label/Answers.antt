@@ -2,7 +2,7 @@ use Rattle.std.proofs.Common.{◌∙◌, ℕ, List, is_some, ap, sym}
 use Rattle.std.specs.Str.{bytes_eq}
 use Rattle.indexmap.proofs.CallerLemmas.{insert_entry-new}
 use denote.Ref.{Bor}
-use Rattle.em_asm.specs.Kept.{labels_in}
+use Rattle.em_asm.specs.Coding.{labels_in}
 use Rattle.em_asm.proofs.Lookups.{lookup-labels, labels-append, not-some}
 use Rattle.em_asm.proofs.layout.put_label.Goals as goal
 

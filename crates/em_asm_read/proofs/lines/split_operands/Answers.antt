@@ -1,7 +1,7 @@
 use Rattle.std.proofs.Common.{◌≡◌, ◌∙◌, ap, map, nat_eq, length, false, sym, List, ℕ}
 use Rattle.std.proofs.lemmas.Result.{IfOk-weaker}
 use denote.Ref.{Bor}
-use Rattle.em_asm_read.specs.Text.{trimmed}
+use Rattle.em_base.specs.Text.{trimmed}
 use Rattle.em_asm_read.proofs.Parting.{some-operands}
 use Rattle.em_asm_read.proofs.lines.split_operands.Goals as goal
 

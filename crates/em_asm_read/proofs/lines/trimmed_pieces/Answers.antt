@@ -3,7 +3,7 @@ use Rattle.std.proofs.lemmas.Iterator.{YieldsList-from_slice, YieldsList-from_ma
 use Rattle.std.proofs.lemmas.Iterator.Consumers.{map_from_collect}
 use Rattle.std.proofs.lemmas.Result.{IfOk-weaker}
 use denote.Ref.{Bor}
-use Rattle.em_asm_read.specs.Text.{trimmed}
+use Rattle.em_base.specs.Text.{trimmed}
 use Rattle.em_asm_read.proofs.Parting.{trimmed-each}
 use Rattle.em_asm_read.proofs.lines.trimmed_pieces.Goals as goal
 

@@ -1,6 +1,6 @@
 use Rattle.std.proofs.Common.{◌≡◌, rules}
 use Rattle.em_asm_read.specs.Operands.{in_range}
-use Rattle.em_asm_read.proofs.Numbering.{read_some, read_none}
+use Rattle.em_asm_read.proofs.NumbersInRange.{read_some, read_none}
 use Rattle.em_asm_read.proofs.operands.ranged_number.Goals as goal
 
 pub returns-in-Some-clause-value : goal.returns-in-Some-clause-value
