@@ -1,6 +1,7 @@
-pub mod Padding
-pub mod Listed
-pub mod Tokens
-pub mod Numbers
-pub mod Named
-pub mod Backs
+pub mod NamesAreMnemonics
+pub mod NumbersReadBack
+pub mod OneLineMore
+pub mod OneListing
+pub mod PaddedDigits
+pub mod TextsReadBack
+pub mod TokensArePlain

@@ -20,14 +20,14 @@ abbrev pub address_text : ℤ → ℕ → List ℕ
 address_text imm rs1 = signed_decimal imm ++ codes "(" ++ register_text rs1 ++ codes ")"
 
 -- operands with a comma and a space between them
-abbrev pub joined : List (List ℕ) → List ℕ
-joined [] = []
-joined (operand ∷ []) = operand
-joined (operand ∷ next ∷ more) = operand ++ codes ", " ++ joined (next ∷ more)
+abbrev pub operands_text : List (List ℕ) → List ℕ
+operands_text [] = []
+operands_text (operand ∷ []) = operand
+operands_text (operand ∷ next ∷ more) = operand ++ codes ", " ++ operands_text (next ∷ more)
 
 -- a mnemonic and its operands
-abbrev pub spelled : List ℕ → List (List ℕ) → List ℕ
-spelled mnemonic operands = mnemonic ++ codes " " ++ joined operands
+abbrev pub statement_text : List ℕ → List (List ℕ) → List ℕ
+statement_text mnemonic operands = mnemonic ++ codes " " ++ operands_text operands
 
 -- ---- mnemonics, each at the place of its funct3
 
@@ -74,18 +74,18 @@ is_whole_fence rd rs1 (negsuc imm) = false
 
 -- the text of an instruction; a fence with other fields than those of `fence` is written as its word
 abbrev pub text_of : Instr → List ℕ
-text_of (Lui rd imm) = spelled (codes "lui") (register_text rd ∷ decimal imm ∷ [])
-text_of (Auipc rd imm) = spelled (codes "auipc") (register_text rd ∷ decimal imm ∷ [])
-text_of (Jal rd offset) = spelled (codes "jal") (register_text rd ∷ signed_decimal offset ∷ [])
-text_of (Jalr rd rs1 imm) = spelled (codes "jalr") (register_text rd ∷ address_text imm rs1 ∷ [])
+text_of (Lui rd imm) = statement_text (codes "lui") (register_text rd ∷ decimal imm ∷ [])
+text_of (Auipc rd imm) = statement_text (codes "auipc") (register_text rd ∷ decimal imm ∷ [])
+text_of (Jal rd offset) = statement_text (codes "jal") (register_text rd ∷ signed_decimal offset ∷ [])
+text_of (Jalr rd rs1 imm) = statement_text (codes "jalr") (register_text rd ∷ address_text imm rs1 ∷ [])
 text_of (Branch op rs1 rs2 offset) =
-    spelled (name_at branch_names op) (register_text rs1 ∷ register_text rs2 ∷ signed_decimal offset ∷ [])
-text_of (Load op rd rs1 imm) = spelled (name_at load_names op) (register_text rd ∷ address_text imm rs1 ∷ [])
-text_of (Store op rs1 rs2 imm) = spelled (name_at store_names op) (register_text rs2 ∷ address_text imm rs1 ∷ [])
+    statement_text (name_at branch_names op) (register_text rs1 ∷ register_text rs2 ∷ signed_decimal offset ∷ [])
+text_of (Load op rd rs1 imm) = statement_text (name_at load_names op) (register_text rd ∷ address_text imm rs1 ∷ [])
+text_of (Store op rs1 rs2 imm) = statement_text (name_at store_names op) (register_text rs2 ∷ address_text imm rs1 ∷ [])
 text_of (OpImm op alt rd rs1 imm) =
-    spelled (immediate_name op alt) (register_text rd ∷ register_text rs1 ∷ signed_decimal imm ∷ [])
+    statement_text (immediate_name op alt) (register_text rd ∷ register_text rs1 ∷ signed_decimal imm ∷ [])
 text_of (Op op alt rd rs1 rs2) =
-    spelled (operation_name op alt) (register_text rd ∷ register_text rs1 ∷ register_text rs2 ∷ [])
+    statement_text (operation_name op alt) (register_text rd ∷ register_text rs1 ∷ register_text rs2 ∷ [])
 text_of (Fence rd rs1 imm) = if is_whole_fence rd rs1 imm then codes "fence" else raw_text (word_of (Fence rd rs1 imm))
 text_of Ecall = codes "ecall"
 text_of Ebreak = codes "ebreak"

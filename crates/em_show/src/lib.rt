@@ -1,12 +1,12 @@
 //! Instructions and code as text.
 #![tactic(auto)]
 
-pub mod laws;
-pub mod listings;
-pub mod names;
-pub mod texts;
+mod laws;
+mod listings;
+mod names;
+mod texts;
 
-pub use laws::{one_text, reads_back};
+pub use laws::{one_listing, one_text, reads_back};
 pub use listings::listing;
 pub use texts::show;
 

@@ -32,7 +32,8 @@ fn words_listing(alloc: Global, words: &[u32]) -> Result<String, NoMemory>
 
 /// Puts the line of a word at the end.
 fn put_line(text: &mut String, address: u32, word: u32) -> Result<(), NoMemory>
-    ensures { OnOk result ((own : List ℕ) × IsTextOf word own × (string_bytes text.new ≡ string_bytes text.old ++ listed_line address word own)) }
+    ensures { OnOk result ((own : List ℕ) × IsTextOf word own
+        × (string_bytes text.new ≡ string_bytes text.old ++ listed_line address word own)) }
 {
     put_hexadecimal(text, address)?;
     text.push_str(": ")?;
@@ -45,7 +46,8 @@ fn put_line(text: &mut String, address: u32, word: u32) -> Result<(), NoMemory>
 
 /// Puts the text of a word at the end.
 fn put_word(text: &mut String, word: u32) -> Result<(), NoMemory>
-    ensures { OnOk result ((own : List ℕ) × IsTextOf word own × (string_bytes text.new ≡ string_bytes text.old ++ own)) }
+    ensures { OnOk result ((own : List ℕ) × IsTextOf word own
+        × (string_bytes text.new ≡ string_bytes text.old ++ own)) }
 {
     match decode(word) {
         Some(instruction) => put_instruction(text, &instruction),

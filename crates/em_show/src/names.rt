@@ -20,44 +20,48 @@ const IMMEDIATES: [&str; 8] = [
 const OPERATIONS: [&str; 8] = ["add", "sll", "slt", "sltu", "xor", "srl", "or", "and"];
 
 /// The mnemonic of a branch.
-pub fn branch_name(op: u8) -> &'static str
+pub(crate) fn branch_name(op: u8) -> &'static str
     requires { op < 8 }
     ensures { result.now ≡ spec.name_at spec.branch_names op }
 {
-    BRANCHES[op as usize]
+    BRANCHES[usize::from(op)]
 }
 
 /// The mnemonic of a load.
-pub fn load_name(op: u8) -> &'static str
+pub(crate) fn load_name(op: u8) -> &'static str
     requires { op < 6 }
     ensures { result.now ≡ spec.name_at spec.load_names op }
 {
-    LOADS[op as usize]
+    LOADS[usize::from(op)]
 }
 
 /// The mnemonic of a store.
-pub fn store_name(op: u8) -> &'static str
+pub(crate) fn store_name(op: u8) -> &'static str
     requires { op < 3 }
     ensures { result.now ≡ spec.name_at spec.store_names op }
 {
-    STORES[op as usize]
+    STORES[usize::from(op)]
 }
 
 /// The mnemonic of an operation over an immediate.
-pub fn immediate_name(op: u8, alt: bool) -> &'static str
+pub(crate) fn immediate_name(op: u8, alt: bool) -> &'static str
     requires { op < 8 }
     ensures { result.now ≡ spec.immediate_name op alt }
 {
-    if alt { "srai" } else { IMMEDIATES[op as usize] }
+    if alt {
+        "srai"
+    } else {
+        IMMEDIATES[usize::from(op)]
+    }
 }
 
 /// The mnemonic of an operation over registers.
-pub fn operation_name(op: u8, alt: bool) -> &'static str
+pub(crate) fn operation_name(op: u8, alt: bool) -> &'static str
     requires { op < 8 }
     ensures { result.now ≡ spec.operation_name op alt }
 {
     if !alt {
-        OPERATIONS[op as usize]
+        OPERATIONS[usize::from(op)]
     } else if op == 0 {
         "sub"
     } else {

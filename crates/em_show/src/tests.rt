@@ -1,4 +1,5 @@
-//! The words of GNU as with the texts that its disassembler has for them, in this project's form.
+//! The words of GNU as with the texts that its disassembler has for them, in this project's form. Four fences, which are
+//! written as their words, have a text of this project's own.
 
 use crate::{listing, show};
 use em_base::{Image, Items, NoMemory};
@@ -69,7 +70,7 @@ fn expect(rt: &impl Abort, alloc: Global, word: u32, text: &str) -> Result<(), F
 }
 
 #[test]
-fn instructions(rt: HostRuntime) -> Result<(), Fail> {
+fn instructions_have_their_texts(rt: HostRuntime) -> Result<(), Fail> {
     let alloc = rt.alloc();
     for (word, text) in SHOWN {
         expect(&rt, alloc, word, text)?;
@@ -78,7 +79,12 @@ fn instructions(rt: HostRuntime) -> Result<(), Fail> {
 }
 
 /// The listing of three code words.
-fn listed(alloc: Global, first: u32, second: u32, third: u32) -> Result<String, NoMemory> {
+fn listing_of_three(
+    alloc: Global,
+    first: u32,
+    second: u32,
+    third: u32,
+) -> Result<String, NoMemory> {
     let mut words = Items::new(alloc);
     words.push(alloc, first)?;
     words.push(alloc, second)?;
@@ -95,11 +101,11 @@ fn listed(alloc: Global, first: u32, second: u32, third: u32) -> Result<String, 
 }
 
 #[test]
-fn listings(rt: HostRuntime) -> Result<(), Fail> {
+fn words_of_no_instruction_are_listed_as_numbers(rt: HostRuntime) -> Result<(), Fail> {
     let alloc = rt.alloc();
     // The second is a word of an extension, and the third is reserved: neither is an instruction of RV32I.
     assert_eq!(rt;
-        listed(alloc, 0x00a00513, 0x02c58533, 0xffffffff)?.as_str(),
+        listing_of_three(alloc, 0x00a00513, 0x02c58533, 0xffffffff)?.as_str(),
         "00000000: 00a00513 addi x10, x0, 10\n00000004: 02c58533 .code 0x02c58533\n00000008: ffffffff .code 0xffffffff\n"
     );
     Ok(())

@@ -1,4 +1,4 @@
-use Rattle.em_show.proofs.Backs.{instruction-back, text-back, text-first}
+use Rattle.em_show.proofs.TextsReadBack.{instruction-back, text-back, text-first}
 use Rattle.em_show.proofs.laws.reads_back.Goals as goal
 
 pub returns : goal.returns

@@ -1,6 +1,6 @@
 use Rattle.std.proofs.Common.{◌+◌, subst, sym, string_bytes, take}
 use Rattle.em_show.specs.Listing.{IsListing}
-use Rattle.em_show.proofs.Listed.{listing-next}
+use Rattle.em_show.proofs.OneLineMore.{listing-next}
 use Rattle.em_show.proofs.listings.words_listing.Goals as goal
 
 pub loop-place-preserved : goal.loop-place-preserved

@@ -3,7 +3,7 @@ use Rattle.std.specs.Fmt.{format_spec, padded_integral, styled_digits_output}
 use Rattle.std.specs.Option.{option_map}
 use Rattle.std.specs.Prelude.{string_bytes}
 use Rattle.em_show.specs.Show.{hexadecimal}
-use Rattle.em_show.proofs.Padding.{appended, padded-digits}
+use Rattle.em_show.proofs.PaddedDigits.{appended, padded-digits}
 use Rattle.em_show.proofs.texts.put_hexadecimal.Goals as goal
 
 pub returns : goal.returns

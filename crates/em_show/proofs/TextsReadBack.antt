@@ -20,14 +20,14 @@ use Rattle.em_asm_read.specs.Grammar.{Words, HasParts}
 use Rattle.em_asm_read.specs.Mnemonics.{mnemonic_of}
 use Rattle.em_asm_read.specs.Operands.{address_operand, number_operand, register_operand, target_operand}
 use Rattle.em_asm_read.specs.Statements.{one, immediate_operand, statement, upper}
-use Rattle.em_asm_read.proofs.Trimming.{both, both_are}
+use Rattle.em_base.proofs.Trimming.{both, both_are}
 use Rattle.std.specs.List.{list_all}
 use Rattle.em_show.specs.Back.{ReadsBack, one_word}
 use Rattle.em_show.specs.Listing.{IsTextOf}
-use Rattle.em_show.specs.Show.{address_text, branch_names, hexadecimal, immediate_name, is_whole_fence, load_names, name_at, operation_name, raw_text, register_text, spelled, store_names, text_of}
-use Rattle.em_show.proofs.Named.{IsNamed, IsPlainFirst, operation-named, immediate-named, branch-named, load-named, store-named, jal-named, jalr-named, lui-named, auipc-named, fence-named, ecall-named, ebreak-named, code-named}
-use Rattle.em_show.proofs.Numbers.{IsSmall, address-back, address-token, hexadecimal-back, hexadecimal-token, number-back, number-token, register-back, register-token, target-back}
-use Rattle.em_show.proofs.Tokens.{is_token, parts-alone, parts-spelled}
+use Rattle.em_show.specs.Show.{address_text, branch_names, hexadecimal, immediate_name, is_whole_fence, load_names, name_at, operation_name, raw_text, register_text, statement_text, store_names, text_of}
+use Rattle.em_show.proofs.NamesAreMnemonics.{IsNamed, IsPlainFirst, operation-named, immediate-named, branch-named, load-named, store-named, jal-named, jalr-named, lui-named, auipc-named, fence-named, ecall-named, ebreak-named, code-named}
+use Rattle.em_show.proofs.NumbersReadBack.{IsSmall, address-back, address-token, hexadecimal-back, hexadecimal-token, number-back, number-token, register-back, register-token, target-back}
+use Rattle.em_show.proofs.TokensArePlain.{is_token, parts-alone, parts-statement_text}
 
 -- ---- a statement reads back
 
@@ -48,10 +48,10 @@ said-back text words mnemonic item word parts named says is =
     }
 
 -- a mnemonic with operands
-spelled-back : (name operand : List ℕ) (operands : List (List ℕ)) (mnemonic : Mnemonic) (item : Item) (word : ℕ) → IsNamed name mnemonic → is_token operand ≡ true → list_all is_token operands ≡ true
-    → statement mnemonic (operand ∷ operands) ≡ Ok item → one_word item ≡ Some word → ReadsBack (spelled name (operand ∷ operands)) word
-spelled-back name operand operands mnemonic item word named first more says is =
-    said-back (spelled name (operand ∷ operands)) (record { mnemonic = name; operands = operand ∷ operands }) mnemonic item word (parts-spelled name operand operands named.0 first more) named.1 says is
+statement_text-back : (name operand : List ℕ) (operands : List (List ℕ)) (mnemonic : Mnemonic) (item : Item) (word : ℕ) → IsNamed name mnemonic → is_token operand ≡ true → list_all is_token operands ≡ true
+    → statement mnemonic (operand ∷ operands) ≡ Ok item → one_word item ≡ Some word → ReadsBack (statement_text name (operand ∷ operands)) word
+statement_text-back name operand operands mnemonic item word named first more says is =
+    said-back (statement_text name (operand ∷ operands)) (record { mnemonic = name; operands = operand ∷ operands }) mnemonic item word (parts-statement_text name operand operands named.0 first more) named.1 says is
 
 -- a mnemonic alone
 alone-back : (name : List ℕ) (mnemonic : Mnemonic) (item : Item) (word : ℕ) → IsNamed name mnemonic → statement mnemonic [] ≡ Ok item → one_word item ≡ Some word → ReadsBack name word
@@ -107,7 +107,7 @@ upper-range n h = record { small = omega arith; least = omega (arith, ints); mos
 operation-back : (op : ℕ) (alt : Bool) (rd rs1 rs2 : ℕ) → Fits (Op op alt rd rs1 rs2) → ReadsBack (text_of (Op op alt rd rs1 rs2)) (word_of (Op op alt rd rs1 rs2))
 operation-back op alt rd rs1 rs2 (o, k, d, a, b) =
     let says = ap one (reads-three (λ d a b. Ok (Op op alt d a b)) (register_operand (register_text rd)) (register_operand (register_text rs1)) (register_operand (register_text rs2)) rd rs1 rs2 (register-back rd d) (register-back rs1 a) (register-back rs2 b)) in
-    spelled-back (operation_name op alt) (register_text rd) (register_text rs1 ∷ register_text rs2 ∷ []) (Operation op alt) (One (Op op alt rd rs1 rs2)) (word_of (Op op alt rd rs1 rs2))
+    statement_text-back (operation_name op alt) (register_text rd) (register_text rs1 ∷ register_text rs2 ∷ []) (Operation op alt) (One (Op op alt rd rs1 rs2)) (word_of (Op op alt rd rs1 rs2))
     (operation-named op alt o k) (register-token rd d) (tokens (register_text rs1) (register_text rs2) (register-token rs1 a) (register-token rs2 b)) says refl
 
 -- rd, rs1, imm
@@ -123,7 +123,7 @@ immediate-back : (op : ℕ) (alt : Bool) (rd rs1 : ℕ) (imm : ℤ) → Fits (Op
 immediate-back op alt rd rs1 imm (o, k, d, a, i) =
     let number = immediate-operand-back op imm i in
     let says = ap one (reads-three (λ d a i. Ok (OpImm op alt d a i)) (register_operand (register_text rd)) (register_operand (register_text rs1)) (immediate_operand op (signed_decimal imm)) rd rs1 imm (register-back rd d) (register-back rs1 a) number.0) in
-    spelled-back (immediate_name op alt) (register_text rd) (register_text rs1 ∷ signed_decimal imm ∷ []) (Immediate op alt) (One (OpImm op alt rd rs1 imm)) (word_of (OpImm op alt rd rs1 imm))
+    statement_text-back (immediate_name op alt) (register_text rd) (register_text rs1 ∷ signed_decimal imm ∷ []) (Immediate op alt) (One (OpImm op alt rd rs1 imm)) (word_of (OpImm op alt rd rs1 imm))
     (immediate-named op alt o k) (register-token rd d) (tokens (register_text rs1) (signed_decimal imm) (register-token rs1 a) (number-token imm number.1)) says refl
 
 -- a register, imm(rs1)
@@ -140,19 +140,19 @@ load-back : (op rd rs1 : ℕ) (imm : ℤ) → Fits (Load op rd rs1 imm) → Read
 load-back op rd rs1 imm (o, d, a, i) =
     let p = placed imm rs1 i a in
     let says = ap one (reads-two (λ d a. Ok (Load op d a.1 a.0)) (register_operand (register_text rd)) (address_operand (address_text imm rs1)) rd (imm, rs1) (register-back rd d) p.found) in
-    spelled-back (name_at load_names op) (register_text rd) (address_text imm rs1 ∷ []) (LoadBy op) (One (Load op rd rs1 imm)) (word_of (Load op rd rs1 imm)) (load-named op o) (register-token rd d) p.token says refl
+    statement_text-back (name_at load_names op) (register_text rd) (address_text imm rs1 ∷ []) (LoadBy op) (One (Load op rd rs1 imm)) (word_of (Load op rd rs1 imm)) (load-named op o) (register-token rd d) p.token says refl
 
 store-back : (op rs1 rs2 : ℕ) (imm : ℤ) → Fits (Store op rs1 rs2 imm) → ReadsBack (text_of (Store op rs1 rs2 imm)) (word_of (Store op rs1 rs2 imm))
 store-back op rs1 rs2 imm (o, a, b, i) =
     let p = placed imm rs1 i a in
     let says = ap one (reads-two (λ b a. Ok (Store op a.1 b a.0)) (register_operand (register_text rs2)) (address_operand (address_text imm rs1)) rs2 (imm, rs1) (register-back rs2 b) p.found) in
-    spelled-back (name_at store_names op) (register_text rs2) (address_text imm rs1 ∷ []) (StoreBy op) (One (Store op rs1 rs2 imm)) (word_of (Store op rs1 rs2 imm)) (store-named op o) (register-token rs2 b) p.token says refl
+    statement_text-back (name_at store_names op) (register_text rs2) (address_text imm rs1 ∷ []) (StoreBy op) (One (Store op rs1 rs2 imm)) (word_of (Store op rs1 rs2 imm)) (store-named op o) (register-token rs2 b) p.token says refl
 
 jump-register-back : (rd rs1 : ℕ) (imm : ℤ) → Fits (Jalr rd rs1 imm) → ReadsBack (text_of (Jalr rd rs1 imm)) (word_of (Jalr rd rs1 imm))
 jump-register-back rd rs1 imm (d, a, i) =
     let p = placed imm rs1 i a in
     let says = ap one (reads-two (λ d a. Ok (Jalr d a.1 a.0)) (register_operand (register_text rd)) (address_operand (address_text imm rs1)) rd (imm, rs1) (register-back rd d) p.found) in
-    spelled-back (codes "jalr") (register_text rd) (address_text imm rs1 ∷ []) JalrBy (One (Jalr rd rs1 imm)) (word_of (Jalr rd rs1 imm)) jalr-named (register-token rd d) p.token says refl
+    statement_text-back (codes "jalr") (register_text rd) (address_text imm rs1 ∷ []) JalrBy (One (Jalr rd rs1 imm)) (word_of (Jalr rd rs1 imm)) jalr-named (register-token rd d) p.token says refl
 
 -- rd, n
 upper-back : (rd n : ℕ) → rd < 32 → n < 2 ^ 20 → (upper (register_text rd ∷ decimal n ∷ []) ≡ Ok (rd, n)) × (list_all is_token (decimal n ∷ []) ≡ true)
@@ -165,13 +165,13 @@ upper-back rd n d k =
 load-upper-back : (rd n : ℕ) → Fits (Lui rd n) → ReadsBack (text_of (Lui rd n)) (word_of (Lui rd n))
 load-upper-back rd n (d, k) =
     let u = upper-back rd n d k in
-    spelled-back (codes "lui") (register_text rd) (decimal n ∷ []) LuiBy (One (Lui rd n)) (word_of (Lui rd n)) lui-named (register-token rd d) u.1
+    statement_text-back (codes "lui") (register_text rd) (decimal n ∷ []) LuiBy (One (Lui rd n)) (word_of (Lui rd n)) lui-named (register-token rd d) u.1
     (ap (λ r. one (then_read r (λ u. Ok (Lui u.0 u.1)))) u.0) refl
 
 add-upper-back : (rd n : ℕ) → Fits (Auipc rd n) → ReadsBack (text_of (Auipc rd n)) (word_of (Auipc rd n))
 add-upper-back rd n (d, k) =
     let u = upper-back rd n d k in
-    spelled-back (codes "auipc") (register_text rd) (decimal n ∷ []) AuipcBy (One (Auipc rd n)) (word_of (Auipc rd n)) auipc-named (register-token rd d) u.1
+    statement_text-back (codes "auipc") (register_text rd) (decimal n ∷ []) AuipcBy (One (Auipc rd n)) (word_of (Auipc rd n)) auipc-named (register-token rd d) u.1
     (ap (λ r. one (then_read r (λ u. Ok (Auipc u.0 u.1)))) u.0) refl
 
 -- targets
@@ -180,7 +180,7 @@ branch-back op rs1 rs2 offset (o, a, b, f) =
     let r = branch-range offset f in
     let says = reads-three (λ a b t. Ok (BranchTo op a b t)) (register_operand (register_text rs1)) (register_operand (register_text rs2)) (target_operand (negsuc 4095) (pos 4094) (signed_decimal offset)) rs1 rs2 (Offset offset)
     (register-back rs1 a) (register-back rs2 b) (target-back (negsuc 4095) (pos 4094) offset r.small r.least r.most f.1) in
-    spelled-back (name_at branch_names op) (register_text rs1) (register_text rs2 ∷ signed_decimal offset ∷ []) (BranchBy op) (BranchTo op rs1 rs2 (Offset offset)) (word_of (Branch op rs1 rs2 offset))
+    statement_text-back (name_at branch_names op) (register_text rs1) (register_text rs2 ∷ signed_decimal offset ∷ []) (BranchBy op) (BranchTo op rs1 rs2 (Offset offset)) (word_of (Branch op rs1 rs2 offset))
     (branch-named op o) (register-token rs1 a) (tokens (register_text rs2) (signed_decimal offset) (register-token rs2 b) (number-token offset r.small)) says refl
 
 jump-back : (rd : ℕ) (offset : ℤ) → Fits (Jal rd offset) → ReadsBack (text_of (Jal rd offset)) (word_of (Jal rd offset))
@@ -188,15 +188,16 @@ jump-back rd offset (d, f) =
     let r = jump-range offset f in
     let says = reads-two (λ d t. Ok (JalTo d t)) (register_operand (register_text rd)) (target_operand (negsuc 1048575) (pos 1048574) (signed_decimal offset)) rd (Offset offset) (register-back rd d)
     (target-back (negsuc 1048575) (pos 1048574) offset r.small r.least r.most f.1) in
-    spelled-back (codes "jal") (register_text rd) (signed_decimal offset ∷ []) JalBy (JalTo rd (Offset offset)) (word_of (Jal rd offset)) jal-named (register-token rd d) (one-token (signed_decimal offset) (number-token offset r.small)) says refl
+    statement_text-back (codes "jal") (register_text rd) (signed_decimal offset ∷ []) JalBy (JalTo rd (Offset offset)) (word_of (Jal rd offset)) jal-named (register-token rd d) (one-token (signed_decimal offset) (number-token offset r.small)) says refl
 
 -- ---- fences and words
 
+-- a word that is written as a number reads back
 pub raw-back : (word : ℕ) → word < 2 ^ 32 → ReadsBack (raw_text word) word
 raw-back word h =
     let text = codes "0x" ++ hexadecimal word in
     let says = ap (λ r. then_read (then_read r (λ n. Ok (unsigned_abs n))) (λ w. Ok (Raw w))) (hexadecimal-back word h) in
-    spelled-back (codes ".code") text [] Code (Raw word) word code-named (hexadecimal-token word h) refl says refl
+    statement_text-back (codes ".code") text [] Code (Raw word) word code-named (hexadecimal-token word h) refl says refl
 
 twelve-bits : (z : ℤ) → IsImmediate z → twos_complement 12 z < 4096
 twelve-bits (pos n) h = omega (arith, h)
@@ -224,6 +225,7 @@ fence-back rd rs1 imm fits = by-kind (is_whole_fence rd rs1 imm) refl
 
 -- ---- all instructions
 
+-- the text of an instruction reads back
 pub instruction-back : (i : Instr) → Fits i → ReadsBack (text_of i) (word_of i)
 instruction-back (Lui rd imm) h = load-upper-back rd imm h
 instruction-back (Auipc rd imm) h = add-upper-back rd imm h
@@ -245,20 +247,20 @@ text-back word text h (inr (none, same)) = subst (λ t. ReadsBack t word) (sym s
 
 -- ---- no text begins with a percent sign
 
-spelled-first : (name : List ℕ) (mnemonic : Mnemonic) (operands : List (List ℕ)) → IsNamed name mnemonic → IsPlainFirst (spelled name operands)
-spelled-first [] mnemonic operands h = absurd (cc)
-spelled-first (c ∷ cs) mnemonic operands h = h.2
+statement_text-first : (name : List ℕ) (mnemonic : Mnemonic) (operands : List (List ℕ)) → IsNamed name mnemonic → IsPlainFirst (statement_text name operands)
+statement_text-first [] mnemonic operands h = absurd (cc)
+statement_text-first (c ∷ cs) mnemonic operands h = h.2
 
 first-of : (i : Instr) → Fits i → IsPlainFirst (text_of i)
 first-of (Lui rd imm) h = refl
 first-of (Auipc rd imm) h = refl
 first-of (Jal rd offset) h = refl
 first-of (Jalr rd rs1 imm) h = refl
-first-of (Branch op rs1 rs2 offset) h = spelled-first (name_at branch_names op) (BranchBy op) (register_text rs1 ∷ register_text rs2 ∷ signed_decimal offset ∷ []) (branch-named op h.0)
-first-of (Load op rd rs1 imm) h = spelled-first (name_at load_names op) (LoadBy op) (register_text rd ∷ address_text imm rs1 ∷ []) (load-named op h.0)
-first-of (Store op rs1 rs2 imm) h = spelled-first (name_at store_names op) (StoreBy op) (register_text rs2 ∷ address_text imm rs1 ∷ []) (store-named op h.0)
-first-of (OpImm op alt rd rs1 imm) h = spelled-first (immediate_name op alt) (Immediate op alt) (register_text rd ∷ register_text rs1 ∷ signed_decimal imm ∷ []) (immediate-named op alt h.0 h.1)
-first-of (Op op alt rd rs1 rs2) h = spelled-first (operation_name op alt) (Operation op alt) (register_text rd ∷ register_text rs1 ∷ register_text rs2 ∷ []) (operation-named op alt h.0 h.1)
+first-of (Branch op rs1 rs2 offset) h = statement_text-first (name_at branch_names op) (BranchBy op) (register_text rs1 ∷ register_text rs2 ∷ signed_decimal offset ∷ []) (branch-named op h.0)
+first-of (Load op rd rs1 imm) h = statement_text-first (name_at load_names op) (LoadBy op) (register_text rd ∷ address_text imm rs1 ∷ []) (load-named op h.0)
+first-of (Store op rs1 rs2 imm) h = statement_text-first (name_at store_names op) (StoreBy op) (register_text rs2 ∷ address_text imm rs1 ∷ []) (store-named op h.0)
+first-of (OpImm op alt rd rs1 imm) h = statement_text-first (immediate_name op alt) (Immediate op alt) (register_text rd ∷ register_text rs1 ∷ signed_decimal imm ∷ []) (immediate-named op alt h.0 h.1)
+first-of (Op op alt rd rs1 rs2) h = statement_text-first (operation_name op alt) (Operation op alt) (register_text rd ∷ register_text rs1 ∷ register_text rs2 ∷ []) (operation-named op alt h.0 h.1)
 first-of (Fence rd rs1 imm) h = by-kind (is_whole_fence rd rs1 imm)
   where
     by-kind : (b : Bool) → IsPlainFirst (if b then codes "fence" else raw_text (word_of (Fence rd rs1 imm)))
@@ -270,6 +272,7 @@ first-of Ebreak h = refl
 other-than : (byte : ℕ) → nat_eq byte 37 ≡ false → byte ≡ 37 → ⊥
 other-than byte h e = grind (arith, nat_tests, h, e)
 
+-- the text of a word begins with no percent sign
 pub text-first : (word : ℕ) (text : List ℕ) → IsTextOf word text → slice_index text 0 ≡ 37 → ⊥
 text-first word text (inl (i, fits, is, same)) = other-than (slice_index text 0) (subst IsPlainFirst (sym same) (first-of i fits))
 text-first word text (inr (none, same)) = other-than (slice_index text 0) (subst IsPlainFirst (sym same) refl)

@@ -21,6 +21,7 @@ lines-push place (w ∷ ws) texts word own h =
     ∙ sym (append_assoc (listed_line (4 * place) w h.0) (listed_lines (suc place) ws h.1) (listed_line (4 * (place + length (w ∷ ws))) word own))
     ∙ ap (λ ts. listed_lines place (w ∷ ws) ts ++ listed_line (4 * (place + length (w ∷ ws))) word own) (sym h.2)
 
+-- the listing of one word more has one line more
 pub listing-next : (words : List ℕ) (i : ℕ) (text own : List ℕ) → i < length words → IsListing (take i words) text → IsTextOf (get_or words i 0) own
     → IsListing (take (i + 1) words) (text ++ listed_line (4 * i) (get_or words i 0) own)
 listing-next words i text own h listed t =

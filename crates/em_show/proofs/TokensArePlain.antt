@@ -5,9 +5,9 @@ use Rattle.std.proofs.lemmas.Bool.Decides.{nat_tests}
 use Rattle.std.proofs.lemmas.List.{take_all}
 use Rattle.std.specs.List.{list_all, join_with_byte, prefix_len, suffix_len}
 use Rattle.em_asm_read.specs.Grammar.{AreOperands, HasParts}
-use Rattle.em_asm_read.specs.Text.{is_space, is_hash, is_colon, is_comma, has_no, trimmed, unindented}
-use Rattle.em_asm_read.proofs.Trimming.{both, both_are, drop-front, list_all-joined, list_all-weaker, prefix_len-none, prefix_len-stopped, suffix_len-ended}
-use Rattle.em_show.specs.Show.{joined, spelled}
+use Rattle.em_base.specs.Text.{is_space, is_hash, is_colon, is_comma, has_no, trimmed, unindented}
+use Rattle.em_base.proofs.Trimming.{both, both_are, drop-front, list_all-joined, list_all-weaker, prefix_len-none, prefix_len-stopped, suffix_len-ended}
+use Rattle.em_show.specs.Show.{operands_text, statement_text}
 
 -- ---- tokens
 
@@ -34,6 +34,7 @@ no-comma byte h = grind (arith, nat_tests)
 some : (text : List ℕ) → is_token text ≡ true → 0 < length text
 some text h = let b = (both (nat_lt 0 (length text)) (list_all is_plain text) h).0 in grind (arith, nat_tests, b)
 
+-- each byte of a token is plain
 pub plain : (text : List ℕ) → is_token text ≡ true → list_all is_plain text ≡ true
 plain text h = (both (nat_lt 0 (length text)) (list_all is_plain text) h).1
 
@@ -61,6 +62,7 @@ same-trimmed text p q =
     let all : length text - suffix_len is_space text ≡ length text = omega (arith, q) in
     ap (λ t. take (length t - suffix_len is_space t) t) inner ∙ ap (λ n. take n text) all ∙ take_all (length text) text (omega arith)
 
+-- a token has no spaces to trim
 pub trimmed-token : (text : List ℕ) → is_token text ≡ true → trimmed text ≡ text
 trimmed-token text h =
     let p : prefix_len is_space text ≡ 0 = subst (λ t. prefix_len is_space t ≡ 0) (append-nil text) (starts-plain text [] h) in
@@ -79,14 +81,14 @@ trimmed-indented text h =
 abbrev pieces_of : List ℕ → List (List ℕ) → List (List ℕ)
 pieces_of operand operands = operand ∷ map (λ o. 32 ∷ o) operands
 
-join-indented : (operand : List ℕ) (operands : List (List ℕ)) → join_with_byte 44 ((32 ∷ operand) ∷ map (λ o. 32 ∷ o) operands) ≡ 32 ∷ joined (operand ∷ operands)
+join-indented : (operand : List ℕ) (operands : List (List ℕ)) → join_with_byte 44 ((32 ∷ operand) ∷ map (λ o. 32 ∷ o) operands) ≡ 32 ∷ operands_text (operand ∷ operands)
 join-indented operand [] = refl
 join-indented operand (next ∷ more) =
-    ap (λ t. (32 ∷ operand) ++ (44 ∷ t)) (join-indented next more) ∙ ap (λ t. 32 ∷ t) (sym (append_assoc operand (codes ", ") (joined (next ∷ more))))
+    ap (λ t. (32 ∷ operand) ++ (44 ∷ t)) (join-indented next more) ∙ ap (λ t. 32 ∷ t) (sym (append_assoc operand (codes ", ") (operands_text (next ∷ more))))
 
-join-pieces : (operand : List ℕ) (operands : List (List ℕ)) → joined (operand ∷ operands) ≡ join_with_byte 44 (pieces_of operand operands)
+join-pieces : (operand : List ℕ) (operands : List (List ℕ)) → operands_text (operand ∷ operands) ≡ join_with_byte 44 (pieces_of operand operands)
 join-pieces operand [] = refl
-join-pieces operand (next ∷ more) = append_assoc operand (codes ", ") (joined (next ∷ more)) ∙ sym (ap (λ t. operand ++ (44 ∷ t)) (join-indented next more))
+join-pieces operand (next ∷ more) = append_assoc operand (codes ", ") (operands_text (next ∷ more)) ∙ sym (ap (λ t. operand ++ (44 ∷ t)) (join-indented next more))
 
 clear-indented : (operands : List (List ℕ)) → list_all is_token operands ≡ true → list_all (has_no is_comma) (map (λ o. 32 ∷ o) operands) ≡ true
 clear-indented [] h = refl
@@ -108,11 +110,11 @@ record Ends (text : List ℕ) : Type 0 where
   split : text ≡ front ++ last
   token : is_token last ≡ true
 
-ends-joined : (operand : List ℕ) (operands : List (List ℕ)) → is_token operand ≡ true → list_all is_token operands ≡ true → Ends (joined (operand ∷ operands))
-ends-joined operand [] h k = record { front = []; last = operand; split = refl; token = h }
-ends-joined operand (next ∷ more) h k =
+ends-operands_text : (operand : List ℕ) (operands : List (List ℕ)) → is_token operand ≡ true → list_all is_token operands ≡ true → Ends (operands_text (operand ∷ operands))
+ends-operands_text operand [] h k = record { front = []; last = operand; split = refl; token = h }
+ends-operands_text operand (next ∷ more) h k =
     let b = both (is_token next) (list_all is_token more) k in
-    let e = ends-joined next more b.0 b.1 in
+    let e = ends-operands_text next more b.0 b.1 in
     record {
       front = operand ++ codes ", " ++ e.front;
       last = e.last;
@@ -120,48 +122,49 @@ ends-joined operand (next ∷ more) h k =
       token = e.token;
     }
 
-starts-joined : (operand : List ℕ) (operands : List (List ℕ)) → is_token operand ≡ true → prefix_len is_space (joined (operand ∷ operands)) ≡ 0
-starts-joined operand [] h = subst (λ t. prefix_len is_space t ≡ 0) (append-nil operand) (starts-plain operand [] h)
-starts-joined operand (next ∷ more) h = subst (λ t. prefix_len is_space t ≡ 0) (sym (append_assoc operand (codes ", ") (joined (next ∷ more)))) (starts-plain operand (codes ", " ++ joined (next ∷ more)) h)
+starts-operands_text : (operand : List ℕ) (operands : List (List ℕ)) → is_token operand ≡ true → prefix_len is_space (operands_text (operand ∷ operands)) ≡ 0
+starts-operands_text operand [] h = subst (λ t. prefix_len is_space t ≡ 0) (append-nil operand) (starts-plain operand [] h)
+starts-operands_text operand (next ∷ more) h = subst (λ t. prefix_len is_space t ≡ 0) (sym (append_assoc operand (codes ", ") (operands_text (next ∷ more)))) (starts-plain operand (codes ", " ++ operands_text (next ∷ more)) h)
 
 -- a byte that neither tokens nor commas nor spaces are
-clear-joined : (test : ℕ → Bool) → ((x : ℕ) → is_plain x ≡ true → not (test x) ≡ true) → has_no test (codes ", ") ≡ true → (operand : List ℕ) (operands : List (List ℕ)) → is_token operand ≡ true → list_all is_token operands ≡ true
-    → has_no test (joined (operand ∷ operands)) ≡ true
-clear-joined test other marks operand [] h k = list_all-weaker is_plain (λ x. not (test x)) operand other (plain operand h)
-clear-joined test other marks operand (next ∷ more) h k =
+clear-operands_text : (test : ℕ → Bool) → ((x : ℕ) → is_plain x ≡ true → not (test x) ≡ true) → has_no test (codes ", ") ≡ true → (operand : List ℕ) (operands : List (List ℕ)) → is_token operand ≡ true → list_all is_token operands ≡ true
+    → has_no test (operands_text (operand ∷ operands)) ≡ true
+clear-operands_text test other marks operand [] h k = list_all-weaker is_plain (λ x. not (test x)) operand other (plain operand h)
+clear-operands_text test other marks operand (next ∷ more) h k =
     let b = both (is_token next) (list_all is_token more) k in
-    list_all-joined (λ x. not (test x)) (operand ++ codes ", ") (joined (next ∷ more))
+    list_all-joined (λ x. not (test x)) (operand ++ codes ", ") (operands_text (next ∷ more))
     (list_all-joined (λ x. not (test x)) operand (codes ", ") (list_all-weaker is_plain (λ x. not (test x)) operand other (plain operand h)) marks)
-    (clear-joined test other marks next more b.0 b.1)
+    (clear-operands_text test other marks next more b.0 b.1)
 
-some-joined : (operand : List ℕ) (operands : List (List ℕ)) → is_token operand ≡ true → 0 < length (joined (operand ∷ operands))
-some-joined operand [] h = some operand h
-some-joined operand (next ∷ more) h = omega (arith, some operand h, length-append (operand ++ codes ", ") (joined (next ∷ more)), length-append operand (codes ", "))
+some-operands_text : (operand : List ℕ) (operands : List (List ℕ)) → is_token operand ≡ true → 0 < length (operands_text (operand ∷ operands))
+some-operands_text operand [] h = some operand h
+some-operands_text operand (next ∷ more) h = omega (arith, some operand h, length-append (operand ++ codes ", ") (operands_text (next ∷ more)), length-append operand (codes ", "))
 
-are-operands : (operand : List ℕ) (operands : List (List ℕ)) → is_token operand ≡ true → list_all is_token operands ≡ true → AreOperands (joined (operand ∷ operands)) (operand ∷ operands)
+are-operands : (operand : List ℕ) (operands : List (List ℕ)) → is_token operand ≡ true → list_all is_token operands ≡ true → AreOperands (operands_text (operand ∷ operands)) (operand ∷ operands)
 are-operands operand operands h k =
     let count : 0 < length (pieces_of operand operands) = omega arith in
     let own : has_no is_comma operand ≡ true = list_all-weaker is_plain (λ byte. not (is_comma byte)) operand no-comma (plain operand h) in
     let clear = both_are (has_no is_comma operand) (list_all (has_no is_comma) (map (λ o. 32 ∷ o) operands)) own (clear-indented operands k) in
     let trims = ap₂ (λ o os. o ∷ os) (sym (trimmed-token operand h)) (trimmed-pieces operands k) in
-    inr (some-joined operand operands h, (pieces_of operand operands, count, join-pieces operand operands, clear, trims))
+    inr (some-operands_text operand operands h, (pieces_of operand operands, count, join-pieces operand operands, clear, trims))
 
 -- ---- lines
 
-pub parts-spelled : (mnemonic operand : List ℕ) (operands : List (List ℕ)) → is_token mnemonic ≡ true → is_token operand ≡ true → list_all is_token operands ≡ true
-    → HasParts (spelled mnemonic (operand ∷ operands)) (record { label = None; statement = Some record { mnemonic = mnemonic; operands = operand ∷ operands } })
-parts-spelled mnemonic operand operands m h k =
-    let list = joined (operand ∷ operands) in
-    let text = spelled mnemonic (operand ∷ operands) in
+-- the parts of a mnemonic with operands
+pub parts-statement_text : (mnemonic operand : List ℕ) (operands : List (List ℕ)) → is_token mnemonic ≡ true → is_token operand ≡ true → list_all is_token operands ≡ true
+    → HasParts (statement_text mnemonic (operand ∷ operands)) (record { label = None; statement = Some record { mnemonic = mnemonic; operands = operand ∷ operands } })
+parts-statement_text mnemonic operand operands m h k =
+    let list = operands_text (operand ∷ operands) in
+    let text = statement_text mnemonic (operand ∷ operands) in
     let shape : text ≡ mnemonic ++ (32 ∷ list) = append_assoc mnemonic (codes " ") list in
-    let end = ends-joined operand operands h k in
+    let end = ends-operands_text operand operands h k in
     let starts : prefix_len is_space text ≡ 0 = subst (λ t. prefix_len is_space t ≡ 0) (sym shape) (starts-plain mnemonic (32 ∷ list) m) in
     let ending : text ≡ (mnemonic ++ codes " " ++ end.front) ++ end.last = ap (λ t. mnemonic ++ codes " " ++ t) end.split ∙ sym (append_assoc (mnemonic ++ codes " ") end.front end.last) in
     let ends : suffix_len is_space text ≡ 0 = subst (λ t. suffix_len is_space t ≡ 0) (sym ending) (ends-plain (mnemonic ++ codes " " ++ end.front) end.last end.token) in
     let same : trimmed text ≡ text = same-trimmed text starts ends in
-    let hashes : has_no is_hash text ≡ true = list_all-joined (λ x. not (is_hash x)) (mnemonic ++ codes " ") list (list_all-joined (λ x. not (is_hash x)) mnemonic (codes " ") (list_all-weaker is_plain (λ x. not (is_hash x)) mnemonic no-hash (plain mnemonic m)) refl) (clear-joined is_hash no-hash refl operand operands h k) in
-    let colons : has_no is_colon text ≡ true = list_all-joined (λ x. not (is_colon x)) (mnemonic ++ codes " ") list (list_all-joined (λ x. not (is_colon x)) mnemonic (codes " ") (list_all-weaker is_plain (λ x. not (is_colon x)) mnemonic no-colon (plain mnemonic m)) refl) (clear-joined is_colon no-colon refl operand operands h k) in
-    let inner : unindented (32 ∷ list) ≡ list = drop-front is_space (32 ∷ []) list refl (starts-joined operand operands h) in
+    let hashes : has_no is_hash text ≡ true = list_all-joined (λ x. not (is_hash x)) (mnemonic ++ codes " ") list (list_all-joined (λ x. not (is_hash x)) mnemonic (codes " ") (list_all-weaker is_plain (λ x. not (is_hash x)) mnemonic no-hash (plain mnemonic m)) refl) (clear-operands_text is_hash no-hash refl operand operands h k) in
+    let colons : has_no is_colon text ≡ true = list_all-joined (λ x. not (is_colon x)) (mnemonic ++ codes " ") list (list_all-joined (λ x. not (is_colon x)) mnemonic (codes " ") (list_all-weaker is_plain (λ x. not (is_colon x)) mnemonic no-colon (plain mnemonic m)) refl) (clear-operands_text is_colon no-colon refl operand operands h k) in
+    let inner : unindented (32 ∷ list) ≡ list = drop-front is_space (32 ∷ []) list refl (starts-operands_text operand operands h) in
     let long : 0 < length text = omega (arith, ap length shape, length-append mnemonic (32 ∷ list)) in
     record {
       text = text;
@@ -174,6 +177,7 @@ parts-spelled mnemonic operand operands m h k =
       stated = (long, (32 ∷ list, shape, list_all-weaker is_plain (λ x. not (is_space x)) mnemonic no-space (plain mnemonic m), refl, subst (λ t. AreOperands t (operand ∷ operands)) (sym inner) (are-operands operand operands h k)));
     }
 
+-- the parts of a mnemonic alone
 pub parts-alone : (mnemonic : List ℕ) → is_token mnemonic ≡ true → HasParts mnemonic (record { label = None; statement = Some record { mnemonic = mnemonic; operands = [] } })
 parts-alone mnemonic m =
     let same = trimmed-token mnemonic m in

@@ -17,13 +17,13 @@ use Rattle.em_asm_read.specs.declared.faults.Fault.TheVariants.{Operands, Number
 use Rattle.em_asm_read.specs.declared.items.Target.TheVariants.{Label, Offset}
 use Rattle.em_asm_read.specs.Faults.{found_or, then_read}
 use Rattle.em_asm_read.specs.Labels.{is_label, is_label_start, is_label_byte}
-use Rattle.em_asm_read.specs.Operands.{address_operand, address_parts, aimed, even, in_range, looks_numeric, named_register, number_operand, offset, placed, ranged_number, register_operand, target_operand, wholly_placed}
+use Rattle.em_asm_read.specs.Operands.{address_operand, address_parts, target_in, even_offset, in_range, looks_numeric, named_register, number_operand, offset, address_in, ranged_number, register_operand, target_operand, whole_address}
 use Rattle.em_asm_read.specs.Registers.{register_of}
-use Rattle.em_asm_read.specs.Text.{has_space, is_opening, is_space, trimmed}
-use Rattle.em_asm_read.proofs.Numbering.{number_found}
-use Rattle.em_asm_read.proofs.Trimming.{both, both_are, list_all-joined, prefix_len-to_mark}
+use Rattle.em_base.specs.Text.{has_space, is_opening, is_space, trimmed}
+use Rattle.em_base.proofs.WrittenNumbers.{number_found}
+use Rattle.em_base.proofs.Trimming.{both, both_are, list_all-joined, prefix_len-to_mark}
 use Rattle.em_show.specs.Show.{address_text, hexadecimal, register_text}
-use Rattle.em_show.proofs.Tokens.{is_plain, is_token, plain, token-more, trimmed-token}
+use Rattle.em_show.proofs.TokensArePlain.{is_plain, is_token, plain, token-more, trimmed-token}
 
 -- ---- a test that is passed below a number
 
@@ -62,9 +62,11 @@ register-reads r h =
     let b = both (is_token (register_text r)) (names (register_operand (register_text r)) r) (below reads_register 32 r registers-read h) in
     (b.0, named (register_operand (register_text r)) r b.1)
 
+-- a register's text is a token
 pub register-token : (r : ℕ) → r < 32 → is_token (register_text r) ≡ true
 register-token r h = (register-reads r h).0
 
+-- a register's text reads as the register
 pub register-back : (r : ℕ) → r < 32 → register_operand (register_text r) ≡ Ok r
 register-back r h = (register-reads r h).1
 
@@ -87,6 +89,7 @@ abbrev pub IsSmall : ℤ → Type 0
 IsSmall (pos n) = n < 2 ^ 63
 IsSmall (negsuc n) = n < 2 ^ 63
 
+-- a number's text is a token
 pub number-token : (z : ℤ) → IsSmall z → is_token (signed_decimal z) ≡ true
 number-token (pos n) h = numeral-token 10 (decimal n) (omega arith) (decimal_is_IsNumeral n (omega arith)).0
 number-token (negsuc n) h =
@@ -123,6 +126,7 @@ in-range low high z l h = ap (λ b. if b then Ok z else Err Number) (both_are (i
 ranged-back : (low high z : ℤ) → IsSmall z → low ≤ℤ z → z ≤ℤ high → ranged_number low high (signed_decimal z) ≡ Ok z
 ranged-back low high z s l h = ap (λ o. then_read (found_or Number o) (in_range low high)) (number_found (signed_decimal z) z (written z s)) ∙ in-range low high z l h
 
+-- a number's text reads as the number, where it is within the bounds
 pub number-back : (low high z : ℤ) → IsSmall z → low ≤ℤ z → z ≤ℤ high → number_operand low high (signed_decimal z) ≡ Ok z
 number-back low high z s l h =
     ap (λ b. if b then Err Operands else ranged_number low high (signed_decimal z)) (unbroken (signed_decimal z) (number-token z s)) ∙ ranged-back low high z s l h
@@ -137,6 +141,7 @@ shape : (imm : ℤ) (rs1 : ℕ) → address_text imm rs1 ≡ signed_decimal imm 
 shape imm rs1 =
     append_assoc (signed_decimal imm ++ codes "(") (register_text rs1) (codes ")") ∙ append_assoc (signed_decimal imm) (codes "(") (register_text rs1 ++ codes ")")
 
+-- the text of an address is a token
 pub address-token : (imm : ℤ) (rs1 : ℕ) → IsSmall imm → rs1 < 32 → is_token (address_text imm rs1) ≡ true
 address-token imm rs1 s h =
     let inner = list_all-joined is_plain (register_text rs1) (codes ")") (plain (register_text rs1) (register-token rs1 h)) refl in
@@ -185,12 +190,13 @@ parts-found imm rs1 s h =
     ap (λ b. if b then Some (trimmed (before_first is_opening text), trimmed (take (length (after_first is_opening text) - 1) (after_first is_opening text))) else None) tests
     ∙ ap₂ (λ (a b : List ℕ). Some (a, b)) left right
 
+-- the text of an address reads as its parts
 pub address-back : (imm : ℤ) (rs1 : ℕ) → IsSmall imm → negsuc 2047 ≤ℤ imm → imm ≤ℤ pos 2047 → rs1 < 32 → address_operand (address_text imm rs1) ≡ Ok (imm, rs1)
 address-back imm rs1 s l h r =
     let number = signed_decimal imm in
     let register = register_text rs1 in
-    ap (λ o. then_read (found_or Operands o) wholly_placed) (parts-found imm rs1 s r)
-    ∙ ap₂ (λ a b. if a || b then Err Operands else placed (number, register)) (unbroken number (number-token imm s)) (unbroken register (register-token rs1 r))
+    ap (λ o. then_read (found_or Operands o) whole_address) (parts-found imm rs1 s r)
+    ∙ ap₂ (λ a b. if a || b then Err Operands else address_in (number, register)) (unbroken number (number-token imm s)) (unbroken register (register-token rs1 r))
     ∙ ap (λ o. then_read o (λ i. then_read (named_register register) (λ d. Ok (i, d)))) (ranged-back (negsuc 2047) (pos 2047) imm s l h)
     ∙ ap (λ o. then_read o (λ d. Ok (imm, d))) (named-back rs1 r)
 
@@ -217,13 +223,14 @@ number-first : (z : ℤ) → IsSmall z → (is_label (signed_decimal z) ≡ fals
 number-first (pos n) h = numeral-first (decimal n) (decimal_is_IsNumeral n (omega arith)).0
 number-first (negsuc n) h = (not-first (nat_lt 0 (length (45 ∷ decimal (suc n)))) (nat_le (length (45 ∷ decimal (suc n))) 64) false (list_all is_label_byte (45 ∷ decimal (suc n))) refl, refl)
 
+-- the text of an offset reads as a target by that offset
 pub target-back : (low high z : ℤ) → IsSmall z → low ≤ℤ z → z ≤ℤ high → unsigned_abs z % 2 ≡ 0 → target_operand low high (signed_decimal z) ≡ Ok (Offset z)
 target-back low high z s l h e =
     let text = signed_decimal z in
     let first = number-first z s in
     let ready : nat_eq (unsigned_abs z % 2) 0 ≡ true = ap (λ n. nat_eq n 0) e in
-    let found : offset low high text ≡ Ok z = ap (λ r. then_read r even) (ranged-back low high z s l h) ∙ ap (λ b. if b then Ok z else Err Number) ready in
-    ap (λ b. if b then Err Operands else aimed low high text) (unbroken text (number-token z s))
+    let found : offset low high text ≡ Ok z = ap (λ r. then_read r even_offset) (ranged-back low high z s l h) ∙ ap (λ b. if b then Ok z else Err Number) ready in
+    ap (λ b. if b then Err Operands else target_in low high text) (unbroken text (number-token z s))
     ∙ ap₂ (λ a b. if a then Ok (Label text) else if b then then_read (offset low high text) (λ o. Ok (Offset o)) else Err BadLabel) first.0 first.1
     ∙ ap (λ r. then_read r (λ o. Ok (Offset o))) found
 
@@ -244,9 +251,11 @@ hexadecimal-numeral w h =
     let long : 0 < length (hexadecimal w) = omega (arith, d.0.0, length-append (replicate (8 - length ds) 48) ds) in
     ((long, zeros-digits (8 - length ds) ds d.0.1), zeros-value (8 - length ds) ds ∙ d.1)
 
+-- a word in hexadecimal is a token
 pub hexadecimal-token : (w : ℕ) → w < 2 ^ 32 → is_token (codes "0x" ++ hexadecimal w) ≡ true
 hexadecimal-token w h = token-more (codes "0x") (hexadecimal w) refl (plain-digits 16 (hexadecimal w) (omega arith) (hexadecimal-numeral w h).0.1)
 
+-- a word in hexadecimal reads as the word
 pub hexadecimal-back : (w : ℕ) → w < 2 ^ 32 → number_operand (pos 0) (pos 4294967295) (codes "0x" ++ hexadecimal w) ≡ Ok (pos w)
 hexadecimal-back w h =
     let text = codes "0x" ++ hexadecimal w in
