@@ -1,7 +1,8 @@
-pub mod Wording
-pub mod Decimals
-pub mod Ordered
-pub mod Possible
-pub mod Clear
-pub mod Unique
-pub mod Complete
+pub mod FirstWord
+pub mod DecimalNumbers
+pub mod EventsInOrder
+pub mod PossibleEvents
+pub mod NextEvent
+pub mod ValidScript
+pub mod OneScript
+pub mod OneAnswer

@@ -1,6 +1,6 @@
 //! Why a script is refused.
 ghost use Rattle.std.specs.Prelude.{◌≡◌};
-ghost use Rattle.em_script.specs.Script.{number_of};
+ghost use Rattle.em_script.specs.Script.{code_of};
 
 use em_base::Refusal;
 
@@ -13,7 +13,7 @@ pub enum Fault {
     TimeFalls,
     /// No task has its interrupt line.
     NoTask,
-    /// It passes the greatest number of events.
+    /// It is one event more than there may be.
     TooMany,
 }
 
@@ -21,7 +21,7 @@ impl Fault {
     /// The refusal of a line with this fault, by the line's number in the whole input. Its code is the one of the table of
     /// codes in docs/FORMATS.md.
     pub fn at(self, line: u32) -> Refusal
-        ensures { result ≡ record { code = number_of self; line = line } }
+        ensures { result ≡ record { code = code_of self; line = line } }
     {
         let code = match self {
             Fault::Form => 30,

@@ -3,9 +3,10 @@ ghost use Rattle.std.specs.Prelude.{◌≡◌, ◌≤◌, ◌<◌, ◌^◌, [], 
 ghost use Rattle.std.specs.Option.{SomeIff};
 ghost use Rattle.std.specs.Str.Parse.{IsNumeral, digits_value};
 ghost use Rattle.em_script.specs.Lines as spec;
-ghost use Rattle.em_script.specs.Lines.{AreWithin, said, said_by, words_in};
+ghost use Rattle.em_script.specs.Lines.{meaning_of, meaning_of_words, words_in};
 
-use em_asm_read::pieces::{before, skip_blanks, split_word};
+use em_base::numbers::digits_number;
+use em_base::pieces::{before, skip_blanks, split_word};
 use std::str;
 
 /// The greatest number of an interrupt line.
@@ -16,7 +17,7 @@ const LAST_PORT: u32 = 7;
 
 /// What a line of a script says. Times are in cycles since the start of the run.
 #[derive(Clone, Copy, Debug, PartialEq, Eq)]
-pub enum Said {
+pub enum Meaning {
     /// Nothing: the line is blank, or a comment alone.
     Nothing,
     /// At a time, an interrupt comes on a line, 0 to 31, with a word.
@@ -29,7 +30,7 @@ pub enum Said {
         word: u32,
     },
     /// At a time, a port is unplugged.
-    Unplug {
+    Unplugged {
         /// The time.
         time: u32,
         /// The port, 0 to 7.
@@ -40,19 +41,18 @@ pub enum Said {
 /// What a line says: nothing, TIME `line` N WORD, or TIME `unplug` PORT, before a comment that `#` begins. Words stand
 /// between spaces and tabs. Numbers are decimal digits: N at most 31, PORT at most 7, the others at most 4294967295.
 /// `None` where the line is none of these.
-pub fn read_line(line: &str) -> Option<Said>
-    ensures said { result ≡ said line.now }
-    ensures within { IfSome result AreWithin }
+pub fn read_line(line: &str) -> Option<Meaning>
+    ensures { result ≡ meaning_of line.now }
 {
-    read_code(before(line.as_bytes(), b'#'))
+    read_words(before(line.as_bytes(), b'#'))
 }
 
-/// What a line without its comment says.
-fn read_code(code: &[u8]) -> Option<Said>
-    ensures { result ≡ said_by (words_in code.now) }
+/// What the words of a text say.
+fn read_words(text: &[u8]) -> Option<Meaning>
+    ensures { result ≡ meaning_of_words (words_in text.now) }
 {
-    let Some((time, rest)) = first_word(code) else {
-        return Some(Said::Nothing);
+    let Some((time, rest)) = first_word(text) else {
+        return Some(Meaning::Nothing);
     };
     let (verb, rest) = first_word(rest)?;
     let (first, rest) = first_word(rest)?;
@@ -67,7 +67,8 @@ fn read_code(code: &[u8]) -> Option<Said>
 
 /// The first word, and what follows it. `None` where there is no word.
 fn first_word(text: &[u8]) -> Option<(&[u8], &[u8])>
-    ensures { MatchOption result (words_in text.now ≡ []) (λ parts. words_in text.now ≡ parts.0.now ∷ words_in parts.1.now) }
+    ensures { MatchOption result (words_in text.now ≡ [])
+        (λ parts. words_in text.now ≡ parts.0.now ∷ words_in parts.1.now) }
 {
     let (word, rest) = split_word(skip_blanks(text));
     if word.is_empty() {
@@ -78,20 +79,20 @@ fn first_word(text: &[u8]) -> Option<(&[u8], &[u8])>
 }
 
 /// What TIME, a verb and PORT say.
-fn unplug(time: &[u8], verb: &[u8], port: &[u8]) -> Option<Said>
-    ensures { result ≡ said_by (time.now ∷ verb.now ∷ port.now ∷ []) }
+fn unplug(time: &[u8], verb: &[u8], port: &[u8]) -> Option<Meaning>
+    ensures { result ≡ meaning_of_words (time.now ∷ verb.now ∷ port.now ∷ []) }
 {
     if verb != b"unplug".as_slice() {
         return None;
     }
     let time = decimal(time, u32::MAX)?;
     let port = decimal(port, LAST_PORT)? as u8;
-    Some(Said::Unplug { time, port })
+    Some(Meaning::Unplugged { time, port })
 }
 
 /// What TIME, a verb, N and WORD say.
-fn interrupt(time: &[u8], verb: &[u8], line: &[u8], word: &[u8]) -> Option<Said>
-    ensures { result ≡ said_by (time.now ∷ verb.now ∷ line.now ∷ word.now ∷ []) }
+fn interrupt(time: &[u8], verb: &[u8], line: &[u8], word: &[u8]) -> Option<Meaning>
+    ensures { result ≡ meaning_of_words (time.now ∷ verb.now ∷ line.now ∷ word.now ∷ []) }
 {
     if verb != b"line".as_slice() {
         return None;
@@ -99,7 +100,7 @@ fn interrupt(time: &[u8], verb: &[u8], line: &[u8], word: &[u8]) -> Option<Said>
     let time = decimal(time, u32::MAX)?;
     let line = decimal(line, LAST_LINE)? as u8;
     let word = decimal(word, u32::MAX)?;
-    Some(Said::Interrupt { time, line, word })
+    Some(Meaning::Interrupt { time, line, word })
 }
 
 /// The number that decimal digits write, where it is at most `high`.
@@ -113,20 +114,11 @@ fn decimal(text: &[u8], high: u32) -> Option<u32>
 
 /// The number that decimal digits write, where it is below 2^32.
 fn number(text: &[u8]) -> Option<u32>
-    ensures { SomeIff result (IsNumeral 10 text.now × (digits_value 10 text.now < 2 ^ 32)) (digits_value 10 text.now) }
+    ensures { let number = digits_value 10 text.now in
+        SomeIff result (IsNumeral 10 text.now × (number < 2 ^ 32)) number }
 {
     match str::from_utf8(text) {
-        Ok(digits) => digits_number(digits),
+        Ok(digits) => u32::try_from(digits_number(digits, 10)?).ok(),
         Err(_) => None,
     }
-}
-
-/// The same of a text. A sign is no digit.
-fn digits_number(digits: &str) -> Option<u32>
-    ensures { SomeIff result (IsNumeral 10 digits.now × (digits_value 10 digits.now < 2 ^ 32)) (digits_value 10 digits.now) }
-{
-    if digits.starts_with('+') {
-        return None;
-    }
-    digits.parse().ok()
 }

@@ -8,15 +8,15 @@ use Rattle.em_table.specs.declared.faults.Fault.{Fault}
 use Rattle.em_table.specs.declared.faults.Fault.TheVariants.{NoToml, Missing, WrongKind, OutOfRange, Unknown, Twice, Background, TooManyReleases}
 
 -- the code of a fault
-abbrev pub number_of : Fault → ℕ
-number_of NoToml = 20
-number_of Missing = 21
-number_of WrongKind = 22
-number_of OutOfRange = 23
-number_of Unknown = 24
-number_of Twice = 25
-number_of Background = 26
-number_of TooManyReleases = 27
+abbrev pub code_of : Fault → ℕ
+code_of NoToml = 20
+code_of Missing = 21
+code_of WrongKind = 22
+code_of OutOfRange = 23
+code_of Unknown = 24
+code_of Twice = 25
+code_of Background = 26
+code_of TooManyReleases = 27
 
 -- a fault, unless this holds
 abbrev pub unless : Bool → Fault → Option Fault
@@ -28,11 +28,11 @@ first_of [] = None
 first_of (Some fault ∷ tests) = Some fault
 first_of (None ∷ tests) = first_of tests
 
--- the refusal that names a fault: every fault of a table is refused at line 1
+-- the refusal that names a fault, at line 1
 abbrev pub refusal_of : Fault → Refusal
-refusal_of fault = record { code = number_of fault; line = 1 }
+refusal_of fault = record { code = code_of fault; line = 1 }
 
--- the failure is the refusal that names the fault; want of memory needs no cause
+-- the failure is the refusal that names the fault; running out of memory needs no cause
 abbrev pub IsFailBy : Option Fault → Fail → Type 0
 IsFailBy found (Refused refusal) = option_map refusal_of found ≡ Some refusal
 IsFailBy found NoMemory = ⊤

@@ -1,4 +1,4 @@
 pub mod Faults
 pub mod Values
 pub mod Tests
-pub mod Kept
+pub mod Reading

@@ -1,6 +1,7 @@
 -- The tests of a table, group by group and key by key, in the order in which they are made: this project's own. Times are in
 -- cycles, windows in bytes.
-use Rattle.std.specs.Prelude.{ℕ, Bool, true, false, ◌&&◌, not, nat_le, nat_eq, List, [], ◌∷◌, ◌++◌, length, map, sum_by, Option, Some, None, codes, if◌then◌else◌}
+use Rattle.std.specs.Prelude.{ℕ, Bool, true, false, ◌&&◌, not, nat_le, nat_eq, List, [], ◌∷◌, ◌++◌, length, map, sum_by, Option, Some, None, codes}
+use Rattle.std.specs.Prelude.{if◌then◌else◌}
 use Rattle.std.specs.List.{list_all, list_any, position}
 use Rattle.std.specs.Option.{unwrap_or, is_some}
 use Rattle.std.specs.Str.{bytes_eq}
@@ -11,13 +12,14 @@ use Rattle.em_base.specs.declared.tables.Kind.TheVariants.{Timer, Line, Backgrou
 use Rattle.em_base.specs.declared.tables.MsgRow.{MsgRow}
 use Rattle.em_base.specs.declared.tables.Table.{Table}
 use Rattle.em_base.specs.declared.tables.TaskRow.{TaskRow}
-use Rattle.em_base.specs.Tables.{longest, longest_window, most_releases, is_name_byte, names_of, lines_of, releases_of}
+use Rattle.em_base.specs.Tables.{longest, longest_window, most_releases, is_name_byte, names_of, interrupt_lines_of, releases_of}
 use Rattle.em_table.specs.declared.faults.Fault.{Fault}
 use Rattle.em_table.specs.declared.faults.Fault.TheVariants.{NoToml, Unknown, Twice, Background as InBackground, TooManyReleases}
 use Rattle.em_table.specs.declared.keys.Need.{Need}
 use Rattle.em_table.specs.declared.keys.Need.TheVariants.{Required, Optional, Foreign}
 use Rattle.em_table.specs.Faults.{unless, first_of}
-use Rattle.em_table.specs.Values.{are_among, number_fault, number_at, text_fault, text_at, tables_fault, tables_at, numbers_fault, numbers_at, texts_fault, texts_at, has_repeat}
+use Rattle.em_table.specs.Values.{are_among, number_fault, number_at, text_fault, text_at, tables_fault, tables_at, numbers_fault, numbers_at, texts_fault}
+use Rattle.em_table.specs.Values.{texts_at, has_repeat}
 
 -- ---- the top
 
@@ -68,6 +70,9 @@ kind_named text =
     else if bytes_eq text (codes "line") then Some Line
     else if bytes_eq text (codes "background") then Some Background
     else None
+
+abbrev pub is_kind : List ℕ → Bool
+is_kind text = is_some (kind_named text)
 
 abbrev pub kind_of : Members → Kind
 kind_of task = unwrap_or (kind_named (text_at (get_member (codes "kind") task))) Timer
@@ -145,7 +150,7 @@ abbrev pub heading_faults : Members → List (Option Fault)
 heading_faults task =
     text_fault is_task_name (get_member (codes "name") task)
     ∷ text_fault is_entry (get_member (codes "entry") task)
-    ∷ text_fault (λ text. is_some (kind_named text)) (get_member (codes "kind") task)
+    ∷ text_fault is_kind (get_member (codes "kind") task)
     ∷ []
 
 abbrev pub deadline_fault : Members → Option Fault
@@ -250,17 +255,33 @@ is_named rows name = list_any (λ row. bytes_eq name row.name) rows
 abbrev pub is_of_background : List TaskRow → List ℕ → Bool
 is_of_background rows name = list_any (λ row. bytes_eq name row.name && is_background row.kind) rows
 
--- all names in a message pass a test
+-- all names in a message pass a test: they are those of tasks; none is that of a background task
 abbrev pub all_names : (List ℕ → Bool) → Message → Bool
 all_names test message = test message.writer && list_all test message.readers
 
+abbrev pub is_known : List TaskRow → Message → Bool
+is_known rows message = all_names (is_named rows) message
+
+abbrev pub is_urgent : List TaskRow → Message → Bool
+is_urgent rows message = all_names (λ name. not (is_of_background rows name)) message
+
+-- two tasks have one name, or one interrupt line; a message has a reader twice
+abbrev pub has_name_twice : List TaskRow → Bool
+has_name_twice rows = has_repeat bytes_eq (names_of rows)
+
+abbrev pub has_line_twice : List TaskRow → Bool
+has_line_twice rows = has_repeat nat_eq (interrupt_lines_of rows)
+
+abbrev pub has_reader_twice : Message → Bool
+has_reader_twice message = has_repeat bytes_eq message.readers
+
 abbrev pub across_faults : ℕ → List TaskRow → List Message → List (Option Fault)
 across_faults horizon rows messages =
-    unless (not (has_repeat bytes_eq (names_of rows))) Twice
-    ∷ unless (not (has_repeat nat_eq (lines_of rows))) Twice
-    ∷ unless (list_all (all_names (is_named rows)) messages) Unknown
-    ∷ unless (list_all (λ message. not (has_repeat bytes_eq message.readers)) messages) Twice
-    ∷ unless (list_all (all_names (λ name. not (is_of_background rows name))) messages) InBackground
+    unless (not (has_name_twice rows)) Twice
+    ∷ unless (not (has_line_twice rows)) Twice
+    ∷ unless (list_all (is_known rows) messages) Unknown
+    ∷ unless (list_all (λ message. not (has_reader_twice message)) messages) Twice
+    ∷ unless (list_all (is_urgent rows) messages) InBackground
     ∷ unless (nat_le (sum_by (releases_of horizon) rows) most_releases) TooManyReleases
     ∷ []
 

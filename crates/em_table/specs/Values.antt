@@ -1,5 +1,5 @@
 -- The values that stand at the keys of a group, and what may be wrong with them: this project's own, over the data that TOML
--- texts stand for.
+-- texts are read as.
 use Rattle.std.specs.Prelude.{ℕ, pos, ◌%◌, Bool, true, false, ◌&&◌, ◌||◌, nat_le, nat_lt, nat_eq, List, [], ◌∷◌, length, Option, Some, None}
 use Rattle.std.specs.List.{list_all, list_any, filter_map}
 use Rattle.std.specs.Option.{unwrap_or, option_map, is_some}

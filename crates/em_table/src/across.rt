@@ -1,136 +1,117 @@
 //! The tests across the groups of a table, and the messages by the numbers of their tasks.
-ghost use Rattle.std.specs.Prelude.{◌≡◌, ◌<◌, ◌≤◌, ◌+◌, ◌||◌, ◌&&◌, not, ℕ, List, Bool, true, All, IfOk, IfSome, None, Some, map, drop, take, length, nat_eq, nat_le, slice_index_or, sum_by};
-ghost use Rattle.std.specs.List.{list_all, list_any, filter_map};
-ghost use Rattle.std.specs.Option.{unwrap_or};
-ghost use Rattle.std.specs.Result.{result_err};
-ghost use Rattle.std.specs.Str.{bytes_eq};
-ghost use Rattle.em_base.specs.declared.tables.TaskRow.{TaskRow as Row};
-ghost use Rattle.em_base.specs.Tables.{names_of, lines_of, releases_of, most_releases};
+ghost use Rattle.std.specs.Prelude.{◌≡◌, ◌<◌, ◌≤◌, not, All, IfOk, IfSome, length, map, nat_le, sum_by};
+ghost use Rattle.std.specs.List.{list_all};
+ghost use Rattle.em_base.specs.Tables.{interrupt_lines_of, most_releases, names_of, releases_of};
+ghost use Rattle.em_base.specs.Text.{texts_of};
 ghost use Rattle.em_table.specs.Faults.{first_of};
-ghost use Rattle.em_table.specs.Kept.{is_line_at, is_same_line, message_in};
-ghost use Rattle.em_table.specs.Tests.{across_faults, all_names, is_named as has_name, is_of_background as has_background_name, is_background, place_of as place_by_name, task_named as task_by_name, message_row as row_of_message};
-ghost use Rattle.em_table.specs.Values.{has_repeat};
+ghost use Rattle.em_table.specs.Reading.{GivesOrFails, message_in};
+ghost use Rattle.em_table.specs.Tests as spec;
+ghost use Rattle.em_table.specs.Tests.{across_faults};
 
 use crate::faults::Fault;
 use crate::messages::Draft;
-use crate::repeats::has_text_twice;
-use em_base::{Items, Kind, MsgRow, NoMemory, TaskId, TaskRow};
-use std::alloc::Global;
+use crate::repeats::has_repeat;
+use em_base::{Fail, Items, Kind, MsgRow, NoMemory, TaskId, TaskRow};
+use std::alloc::{AllocError, Global};
 
 /// The most releases that the periods of a table may cause.
 const MOST_RELEASES: u32 = 200_000;
 
 /// Whether a task has the name.
 fn is_named(rows: &[TaskRow], name: &str) -> bool
-    ensures { result ≡ has_name rows.now name.now }
+    ensures { result ≡ spec.is_named rows.now name.now }
 {
     rows.iter().any(|row| name == row.name.as_str())
 }
 
 /// Whether a background task has the name.
 fn is_of_background(rows: &[TaskRow], name: &str) -> bool
-    ensures { result ≡ has_background_name rows.now name.now }
+    ensures { result ≡ spec.is_of_background rows.now name.now }
 {
     rows.iter().any(|row| name == row.name.as_str() && row.kind == Kind::Background)
 }
 
-/// Whether a task has the interrupt line.
-fn is_line(rows: &[TaskRow], line: u8) -> bool
-    ensures { result ≡ list_any (λ row. is_line_at line row.line) rows.now }
+/// The names of the tasks.
+fn names_in(alloc: Global, rows: &[TaskRow]) -> Result<Vec<&str>, AllocError>
+    ensures { IfOk result (λ names. texts_of names.items ≡ names_of rows.now) }
 {
-    rows.iter().any(|row| row.line == Some(line))
-}
-
-/// Whether the name of the task at a place is that of one after it too.
-fn name_stands_after(rows: &[TaskRow], place: usize) -> bool
-    requires { place < length rows.now }
-    ensures { (row : Row) → row ≡ slice_index_or rows.now place row → result ≡ list_any (λ other. bytes_eq row.name other.name) (drop (place + 1) rows.now) }
-{
-    is_named(&rows[place + 1..], rows[place].name.as_str())
-}
-
-/// Whether a name stands twice.
-fn has_name_twice(rows: &[TaskRow]) -> bool
-    ensures { result ≡ has_repeat bytes_eq (names_of rows.now) }
-{
-    for place in 0..rows.len() {
-        if name_stands_after(rows, place) {
-            return true;
-        }
+    let mut names = Vec::new(alloc);
+    for row in rows {
+        names.push(row.name.as_str())?;
     }
-    false
+    Ok(names)
 }
 
-/// Whether the interrupt line of the task at a place is that of one after it too.
-fn line_stands_after(rows: &[TaskRow], place: usize) -> bool
-    requires { place < length rows.now }
-    ensures { (row : Row) → row ≡ slice_index_or rows.now place row → result ≡ list_any (λ other. is_same_line row.line other.line) (drop (place + 1) rows.now) }
+/// The interrupt lines of the tasks that have one.
+fn lines_in(alloc: Global, rows: &[TaskRow]) -> Result<Vec<u8>, AllocError>
+    ensures { IfOk result (λ lines. lines.items ≡ interrupt_lines_of rows.now) }
 {
-    match rows[place].line {
-        Some(line) => is_line(&rows[place + 1..], line),
-        None => false,
-    }
+    rows.iter().filter_map(|row| row.line).collect(alloc)
 }
 
-/// Whether an interrupt line stands twice.
-fn has_line_twice(rows: &[TaskRow]) -> bool
-    ensures { result ≡ has_repeat nat_eq (lines_of rows.now) }
+/// Whether two tasks have one name.
+fn has_name_twice(alloc: Global, rows: &[TaskRow]) -> Result<bool, AllocError>
+    ensures { IfOk result (λ twice. twice ≡ spec.has_name_twice rows.now) }
 {
-    for place in 0..rows.len() {
-        if line_stands_after(rows, place) {
-            return true;
-        }
-    }
-    false
+    let names = names_in(alloc, rows)?;
+    Ok(has_repeat(names.as_slice()))
 }
 
-/// Whether two tasks have one name, or one interrupt line.
-fn has_task_twice(rows: &[TaskRow]) -> bool
-    ensures { result ≡ (has_repeat bytes_eq (names_of rows.now) || has_repeat nat_eq (lines_of rows.now)) }
+/// Whether two tasks have one interrupt line.
+fn has_line_twice(alloc: Global, rows: &[TaskRow]) -> Result<bool, AllocError>
+    ensures { IfOk result (λ twice. twice ≡ spec.has_line_twice rows.now) }
 {
-    has_name_twice(rows) || has_line_twice(rows)
+    let lines = lines_in(alloc, rows)?;
+    Ok(has_repeat(lines.as_slice()))
 }
 
 /// Whether all names are those of tasks.
 fn are_named(rows: &[TaskRow], names: &[&str]) -> bool
-    ensures { result ≡ list_all (λ name. has_name rows.now name.now) names.now }
+    ensures { result ≡ list_all (λ name. spec.is_named rows.now name.now) names.now }
 {
     names.iter().all(|name| is_named(rows, *name))
 }
 
 /// Whether all names in a message are those of tasks.
 fn is_known(rows: &[TaskRow], message: &Draft) -> bool
-    ensures { result ≡ all_names (has_name rows.now) (message_in message.now) }
+    ensures { result ≡ spec.is_known rows.now (message_in message.now) }
 {
     is_named(rows, message.writer) && are_named(rows, message.readers.as_slice())
 }
 
 /// Whether all names in all messages are those of tasks.
 fn are_known(rows: &[TaskRow], messages: &[Draft]) -> bool
-    ensures { result ≡ list_all (λ message. all_names (has_name rows.now) (message_in message)) messages.now }
+    ensures { result
+        ≡ list_all (λ message. spec.is_known rows.now (message_in message)) messages.now }
 {
     messages.iter().all(|message| is_known(rows, message))
 }
 
+/// Whether a reader stands twice in a message.
+fn has_reader_twice(message: &Draft) -> bool
+    ensures { result ≡ spec.has_reader_twice (message_in message.now) }
+{
+    has_repeat(message.readers.as_slice())
+}
+
 /// Whether no message has a reader twice.
 fn have_readers_once(messages: &[Draft]) -> bool
-    ensures { result ≡ list_all (λ message. not (has_repeat bytes_eq (message_in message).readers)) messages.now }
+    ensures { result
+        ≡ list_all (λ message. not (spec.has_reader_twice (message_in message))) messages.now }
 {
-    messages
-        .iter()
-        .all(|message| !has_text_twice(message.readers.as_slice()))
+    messages.iter().all(|message| !has_reader_twice(message))
 }
 
 /// Whether none of the names is that of a background task.
 fn are_not_of_background(rows: &[TaskRow], names: &[&str]) -> bool
-    ensures { result ≡ list_all (λ name. not (has_background_name rows.now name.now)) names.now }
+    ensures { result ≡ list_all (λ name. not (spec.is_of_background rows.now name.now)) names.now }
 {
     names.iter().all(|name| !is_of_background(rows, *name))
 }
 
 /// Whether no name in a message is that of a background task.
 fn is_urgent(rows: &[TaskRow], message: &Draft) -> bool
-    ensures { result ≡ all_names (λ name. not (has_background_name rows.now name)) (message_in message.now) }
+    ensures { result ≡ spec.is_urgent rows.now (message_in message.now) }
 {
     !is_of_background(rows, message.writer)
         && are_not_of_background(rows, message.readers.as_slice())
@@ -138,7 +119,8 @@ fn is_urgent(rows: &[TaskRow], message: &Draft) -> bool
 
 /// Whether no name in any message is that of a background task.
 fn are_urgent(rows: &[TaskRow], messages: &[Draft]) -> bool
-    ensures { result ≡ list_all (λ message. all_names (λ name. not (has_background_name rows.now name)) (message_in message)) messages.now }
+    ensures { result
+        ≡ list_all (λ message. spec.is_urgent rows.now (message_in message)) messages.now }
 {
     messages.iter().all(|message| is_urgent(rows, message))
 }
@@ -167,31 +149,32 @@ fn are_few(horizon: u32, rows: &[TaskRow]) -> bool
 }
 
 /// Looks for the first fault across the groups of a table.
-pub fn check(horizon: u32, rows: &[TaskRow], messages: &[Draft]) -> Result<(), Fault>
+pub fn check(alloc: Global, horizon: u32, rows: &[TaskRow], messages: &[Draft]) -> Result<(), Fail>
     requires { All (λ row. IfSome row.period (λ period. 0 < period)) rows.now }
-    ensures { result_err result ≡ first_of (across_faults horizon rows.now (map message_in messages.now)) }
+    ensures { let faults = across_faults horizon rows.now (map message_in messages.now) in
+        GivesOrFails result (first_of faults) tt }
 {
-    if has_task_twice(rows) {
-        return Err(Fault::Twice);
+    if has_name_twice(alloc, rows)? || has_line_twice(alloc, rows)? {
+        return Err(Fault::Twice.into());
     }
     if !are_known(rows, messages) {
-        return Err(Fault::Unknown);
+        return Err(Fault::Unknown.into());
     }
     if !have_readers_once(messages) {
-        return Err(Fault::Twice);
+        return Err(Fault::Twice.into());
     }
     if !are_urgent(rows, messages) {
-        return Err(Fault::Background);
+        return Err(Fault::Background.into());
     }
     if !are_few(horizon, rows) {
-        return Err(Fault::TooManyReleases);
+        return Err(Fault::TooManyReleases.into());
     }
     Ok(())
 }
 
 /// The place of the task of a name.
 fn place_of(rows: &[TaskRow], name: &str) -> Option<usize>
-    ensures place { result ≡ place_by_name rows.now name.now }
+    ensures place { result ≡ spec.place_of rows.now name.now }
     ensures within { IfSome result (λ place. place < length rows.now) }
 {
     rows.iter().position(|row| name == row.name.as_str())
@@ -200,7 +183,7 @@ fn place_of(rows: &[TaskRow], name: &str) -> Option<usize>
 /// The number of the task of a name.
 fn task_named(rows: &[TaskRow], name: &str) -> TaskId
     requires { length rows.now ≤ 32 }
-    ensures { result ≡ task_by_name rows.now name.now }
+    ensures { result ≡ spec.task_named rows.now name.now }
 {
     match place_of(rows, name) {
         Some(place) => TaskId(place as u8),
@@ -211,7 +194,7 @@ fn task_named(rows: &[TaskRow], name: &str) -> TaskId
 /// The numbers of the tasks of these names.
 fn tasks_named(alloc: Global, rows: &[TaskRow], names: &[&str]) -> Result<Items<TaskId>, NoMemory>
     requires { length rows.now ≤ 32 }
-    ensures { IfOk result (λ found. found ≡ map (task_by_name rows.now) (map (λ name. name.now) names.now)) }
+    ensures { IfOk result (λ found. found ≡ map (spec.task_named rows.now) (texts_of names.now)) }
 {
     let mut found = Items::new(alloc);
     for name in names {
@@ -223,7 +206,7 @@ fn tasks_named(alloc: Global, rows: &[TaskRow], names: &[&str]) -> Result<Items<
 /// A message by the numbers of its tasks.
 fn message_row(alloc: Global, rows: &[TaskRow], message: &Draft) -> Result<MsgRow, NoMemory>
     requires { length rows.now ≤ 32 }
-    ensures { IfOk result (λ row. row ≡ row_of_message rows.now (message_in message.now)) }
+    ensures { IfOk result (λ row. row ≡ spec.message_row rows.now (message_in message.now)) }
 {
     Ok(MsgRow {
         words: message.words,
@@ -239,7 +222,8 @@ pub fn message_rows(
     messages: &[Draft],
 ) -> Result<Items<MsgRow>, NoMemory>
     requires { length rows.now ≤ 32 }
-    ensures { IfOk result (λ found. found ≡ map (row_of_message rows.now) (map message_in messages.now)) }
+    ensures { let drafts = map message_in messages.now in
+        IfOk result (λ found. found ≡ map (spec.message_row rows.now) drafts) }
 {
     let mut found = Items::new(alloc);
     for message in messages {

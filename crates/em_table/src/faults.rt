@@ -1,11 +1,11 @@
 //! Why a table is refused.
 ghost use Rattle.std.specs.Prelude.{◌≡◌};
 ghost use Rattle.em_base.specs.declared.refusals.Fail.TheVariants.{Refused};
-ghost use Rattle.em_table.specs.Faults.{refusal_of};
+ghost use Rattle.em_table.specs.Faults.{code_of, refusal_of};
 
 use em_base::{Fail, Refusal};
 
-/// What is wrong with a table. Every fault of a table is refused at line 1.
+/// What is wrong with a table.
 #[derive(Clone, Copy, Debug, PartialEq, Eq)]
 pub enum Fault {
     /// The text is no TOML.
@@ -27,9 +27,10 @@ pub enum Fault {
 }
 
 impl Fault {
-    /// The refusal of a table with this fault. Its code is the one of the table of codes in docs/FORMATS.md, its line is 1.
-    pub fn refusal(self) -> Refusal
-        ensures { result ≡ refusal_of self }
+    /// The refusal of a line with this fault, by the line's number in the whole input. Its code is the one of the table of
+    /// codes in docs/FORMATS.md.
+    pub fn at(self, line: u32) -> Refusal
+        ensures { result ≡ record { code = code_of self; line = line } }
     {
         let code = match self {
             Fault::NoToml => 20,
@@ -41,14 +42,15 @@ impl Fault {
             Fault::Background => 26,
             Fault::TooManyReleases => 27,
         };
-        Refusal { code, line: 1 }
+        Refusal { code, line }
     }
 }
 
+/// Every fault of a table is refused at line 1.
 impl From<Fault> for Fail {
     ghost from_gives = { λ fault fail. fail ≡ Refused (refusal_of fault) };
 
     fn from(fault: Fault) -> Fail {
-        Fail::Refused(fault.refusal())
+        Fail::Refused(fault.at(1))
     }
 }

@@ -1,26 +1,26 @@
 //! The values at the keys of a group: numbers and texts within their ranges.
-ghost use Rattle.std.specs.Prelude.{◌≡◌, ◌≤◌, ◌<◌, ℕ, IfOk, IfSome, Some, None, Bool, true, map, option_map, List};
-ghost use Rattle.std.specs.List.{list_all, list_any};
+ghost use Rattle.std.specs.Prelude.{◌≡◌, ◌≤◌, ◌<◌, true, IfOk, IfSome, Some, option_map};
 ghost use Rattle.std.specs.BTreeMap.{keys};
-ghost use Rattle.std.specs.Str.{bytes_eq};
-ghost use Rattle.std.specs.String.{string_bytes};
-ghost use Rattle.toml.specs.Data.{get_member};
-ghost use Rattle.toml.specs.View.{view, table_view};
+ghost use Rattle.std.specs.List.{list_all};
 ghost use Rattle.std.specs.Option.{unwrap_or};
-ghost use Rattle.em_table.specs.declared.keys.Need.TheVariants.{Required};
-ghost use Rattle.em_table.specs.Kept.{Gives, GivesText};
-ghost use Rattle.em_table.specs.Values.{are_among, is_number, is_within as is_from_to, number_fault, number_in, number_at, text_fault, text_at};
+ghost use Rattle.toml.specs.Data.{get_member};
+ghost use Rattle.toml.specs.View.{table_view, view};
+ghost use Rattle.em_base.specs.Text.{texts_of};
+ghost use Rattle.em_table.specs.Reading.{Gives, GivesText, is_allowed};
+ghost use Rattle.em_table.specs.Values as spec;
+ghost use Rattle.em_table.specs.Values.{are_among, number_at, number_fault, number_in, text_at, text_fault};
 
 use crate::faults::Fault;
+use crate::repeats::is_among;
 use toml::{Table, Value};
 
 /// The longest time that a table may name, in cycles.
 pub const LONGEST: u32 = 20_000_000;
 
-/// How a group has a key.
+/// Whether a key must, may or must not stand in a group.
 #[derive(Clone, Copy, Debug, PartialEq, Eq)]
 pub enum Need {
-    /// The key is to be there.
+    /// The key must be there.
     Required,
     /// The key may be left out.
     Optional,
@@ -38,7 +38,7 @@ pub fn value_at<'a>(table: &'a Table, key: &str) -> Option<&'a Value>
 /// Whether a number is from `low` to `high` and a multiple of `step`.
 fn is_within(low: u32, high: u32, step: u32, number: u32) -> bool
     requires { 0 < step }
-    ensures { result ≡ is_from_to low high step number }
+    ensures { result ≡ spec.is_within low high step number }
 {
     low <= number && number <= high && number % step == 0
 }
@@ -46,7 +46,9 @@ fn is_within(low: u32, high: u32, step: u32, number: u32) -> bool
 /// The number that a value is, where it is one from `low` to `high` and a multiple of `step`.
 fn number_within(value: &Value, low: u32, high: u32, step: u32) -> Result<u32, Fault>
     requires { 0 < step }
-    ensures given { Gives result (number_fault Required low high step (Some (view value.now))) (unwrap_or (number_in (view value.now)) 0) }
+    ensures given { let found = view value.now in
+        let fault = number_fault Need.Required low high step (Some found) in
+        Gives result fault (unwrap_or (number_in found) 0) }
     ensures found { IfOk result (λ n. number_in (view value.now) ≡ Some n) }
     ensures within { IfOk result (λ n. (low ≤ n) × (n ≤ high)) }
 {
@@ -73,7 +75,8 @@ pub fn number(
     step: u32,
 ) -> Result<Option<u32>, Fault>
     requires { 0 < step }
-    ensures given { let value = get_member key.now (table_view table.now) in Gives result (number_fault need low high step value) (number_at need value) }
+    ensures given { let value = get_member key.now (table_view table.now) in
+        Gives result (number_fault need low high step value) (number_at need value) }
     ensures within { IfOk result (λ found. IfSome found (λ n. (low ≤ n) × (n ≤ high))) }
 {
     match need {
@@ -91,7 +94,8 @@ pub fn number(
 
 /// The text at a key that is required.
 pub fn text<'a>(table: &'a Table, key: &str) -> Result<&'a str, Fault>
-    ensures { let value = get_member key.now (table_view table.now) in GivesText result (text_fault (λ text. true) value) (text_at value) }
+    ensures { let value = get_member key.now (table_view table.now) in
+        GivesText result (text_fault (λ text. true) value) (text_at value) }
 {
     match value_at(table, key) {
         None => Err(Fault::Missing),
@@ -99,23 +103,16 @@ pub fn text<'a>(table: &'a Table, key: &str) -> Result<&'a str, Fault>
     }
 }
 
-/// Whether the key is one of these.
-fn is_among(key: &str, keys: &[&str]) -> bool
-    ensures { result ≡ list_any (λ other. bytes_eq key.now other.now) keys.now }
-{
-    keys.iter().any(|other| key == *other)
-}
-
 /// Whether each key of a group is one of these, key by key.
-fn each_is_among(table: &Table, listed: &[&str]) -> bool
-    ensures { result ≡ list_all (λ key. list_any (λ other. bytes_eq (string_bytes key) other.now) listed.now) (keys table.now) }
+fn each_is_among(table: &Table, allowed: &[&str]) -> bool
+    ensures { result ≡ list_all (is_allowed allowed.now) (keys table.now) }
 {
-    table.keys().all(|key| is_among(key.as_str(), listed))
+    table.keys().all(|key| is_among(&key.as_str(), allowed))
 }
 
 /// Whether each key of a group is one of these.
-pub fn has_only(table: &Table, listed: &[&str]) -> bool
-    ensures { result ≡ are_among (map (λ other. other.now) listed.now) (table_view table.now) }
+pub fn has_only(table: &Table, allowed: &[&str]) -> bool
+    ensures { result ≡ are_among (texts_of allowed.now) (table_view table.now) }
 {
-    each_is_among(table, listed)
+    each_is_among(table, allowed)
 }

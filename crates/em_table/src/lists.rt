@@ -1,13 +1,14 @@
 //! The values at keys that are arrays: of tables, of texts and of numbers.
-ghost use Rattle.std.specs.Prelude.{◌≡◌, ◌≤◌, ◌<◌, ℕ, Bool, true, false, Some, map, option_map, MatchOption, IfOk, List};
+ghost use Rattle.std.specs.Prelude.{◌≡◌, true, false, IfOk, MatchOption, Some, map, option_map};
 ghost use Rattle.std.specs.List.{list_all, filter_map};
 ghost use Rattle.toml.specs.Data.{as_array, as_table, as_str, get_member};
 ghost use Rattle.toml.specs.View.{view, table_view};
-ghost use Rattle.em_table.specs.declared.faults.Fault.TheVariants.{OutOfRange};
-ghost use Rattle.em_table.specs.declared.keys.Need.TheVariants.{Required, Optional};
+ghost use Rattle.em_base.specs.Text.{texts_of};
+ghost use Rattle.em_table.specs.declared.keys.Need.TheVariants.{Required};
 ghost use Rattle.em_table.specs.Faults.{unless};
-ghost use Rattle.em_table.specs.Kept.{GivesOrFails, GivesSeen};
-ghost use Rattle.em_table.specs.Values.{list_of, is_integer, is_table, is_text, is_below, number_in, numbers_fault, numbers_at, tables_fault, tables_at, texts_fault, texts_at};
+ghost use Rattle.em_table.specs.Reading.{GivesAll, GivesSeen, groups_of, numbers_of};
+ghost use Rattle.em_table.specs.Values.{is_below, is_integer, is_table, is_text, list_of, number_in, numbers_at, numbers_fault, tables_at, tables_fault};
+ghost use Rattle.em_table.specs.Values as spec;
 
 use crate::faults::Fault;
 use crate::keys::value_at;
@@ -17,7 +18,8 @@ use toml::{Table, Value};
 
 /// The items of a value that is an array.
 fn items_of(value: &Value) -> Option<&[Value]>
-    ensures { option_map (λ items. map view items.now) result ≡ option_map list_of (as_array (view value.now)) }
+    ensures { let items = option_map list_of (as_array (view value.now)) in
+        option_map (λ values. map view values.now) result ≡ items }
 {
     match value.as_array() {
         Some(array) => Some(array.as_slice()),
@@ -30,9 +32,8 @@ fn tables_among<'a>(
     alloc: Global,
     values: &'a [Value],
 ) -> Result<Option<Vec<&'a Table>>, AllocError>
-    ensures { IfOk result (λ found. MatchOption found
-        (list_all is_table (map view values.now) ≡ false)
-        (λ tables. (list_all is_table (map view values.now) ≡ true) × (map (λ t. table_view t.now) tables.items ≡ filter_map as_table (map view values.now)))) }
+    ensures { IfOk result
+        (λ found. GivesAll as_table found (λ tables. groups_of tables.items) values.now) }
 {
     let mut found = Vec::new(alloc);
     for value in values {
@@ -46,9 +47,8 @@ fn tables_among<'a>(
 
 /// The texts that the values are, where each of them is one.
 fn texts_among<'a>(alloc: Global, values: &'a [Value]) -> Result<Option<Vec<&'a str>>, AllocError>
-    ensures { IfOk result (λ found. MatchOption found
-        (list_all is_text (map view values.now) ≡ false)
-        (λ texts. (list_all is_text (map view values.now) ≡ true) × (map (λ t. t.now) texts.items ≡ filter_map as_str (map view values.now)))) }
+    ensures { IfOk result
+        (λ found. GivesAll as_str found (λ texts. texts_of texts.items) values.now) }
 {
     let mut found = Vec::new(alloc);
     for value in values {
@@ -76,7 +76,9 @@ fn are_integers(values: &[Value]) -> bool
 
 /// The semaphore that a value names, where it is a number below their number.
 fn semaphore(value: &Value, semaphores: u8) -> Option<SemId>
-    ensures { MatchOption result (is_below semaphores (view value.now) ≡ false) (λ found. (is_below semaphores (view value.now) ≡ true) × (number_in (view value.now) ≡ Some found.0)) }
+    ensures { let item = view value.now in
+        MatchOption result (is_below semaphores item ≡ false)
+        (λ found. (is_below semaphores item ≡ true) × (number_in item ≡ Some found.0)) }
 {
     match value.as_integer() {
         Some(number) => match u8::try_from(number) {
@@ -93,7 +95,9 @@ fn semaphore(value: &Value, semaphores: u8) -> Option<SemId>
 
 /// The semaphores that the values name, where each of them is a number below their number.
 fn semaphores_among(alloc: Global, values: &[Value], semaphores: u8) -> Result<Items<SemId>, Fail>
-    ensures { GivesSeen (λ found. map (λ s. s.0) found) result (unless (list_all (is_below semaphores) (map view values.now)) OutOfRange) (filter_map number_in (map view values.now)) }
+    ensures { let items = map view values.now in
+        let fault = unless (list_all (is_below semaphores) items) Fault.OutOfRange in
+        GivesSeen numbers_of result fault (filter_map number_in items) }
 {
     let mut found = Items::new(alloc);
     for value in values {
@@ -107,7 +111,8 @@ fn semaphores_among(alloc: Global, values: &[Value], semaphores: u8) -> Result<I
 
 /// The semaphores that a value names.
 fn semaphores_in(alloc: Global, value: &Value, semaphores: u8) -> Result<Items<SemId>, Fail>
-    ensures { GivesSeen (λ found. map (λ s. s.0) found) result (numbers_fault semaphores (Some (view value.now))) (numbers_at (Some (view value.now))) }
+    ensures { let value = Some (view value.now) in
+        GivesSeen numbers_of result (numbers_fault semaphores value) (numbers_at value) }
 {
     match items_of(value) {
         Some(values) => if are_integers(values) {
@@ -126,7 +131,8 @@ pub fn semaphores_at(
     key: &str,
     semaphores: u8,
 ) -> Result<Items<SemId>, Fail>
-    ensures { let value = get_member key.now (table_view table.now) in GivesSeen (λ found. map (λ s. s.0) found) result (numbers_fault semaphores value) (numbers_at value) }
+    ensures { let value = get_member key.now (table_view table.now) in
+        GivesSeen numbers_of result (numbers_fault semaphores value) (numbers_at value) }
 {
     match value_at(table, key) {
         Some(value) => semaphores_in(alloc, value, semaphores),
@@ -141,7 +147,9 @@ pub fn tables_in<'a>(
     low: usize,
     high: usize,
 ) -> Result<Vec<&'a Table>, Fail>
-    ensures { GivesSeen (λ found. map (λ t. table_view t.now) found.items) result (tables_fault Required low high (Some (view value.now))) (tables_at (Some (view value.now))) }
+    ensures { let value = Some (view value.now) in
+        let fault = tables_fault Required low high value in
+        GivesSeen (λ found. groups_of found.items) result fault (tables_at value) }
 {
     match items_of(value) {
         Some(values) => match tables_among(alloc, values)? {
@@ -158,7 +166,9 @@ pub fn tables_in<'a>(
 
 /// The texts that a value is.
 fn texts_in<'a>(alloc: Global, value: &'a Value) -> Result<Vec<&'a str>, Fail>
-    ensures { GivesSeen (λ found. map (λ t. t.now) found.items) result (texts_fault (Some (view value.now))) (texts_at (Some (view value.now))) }
+    ensures { let value = Some (view value.now) in
+        let fault = spec.texts_fault value in
+        GivesSeen (λ found. texts_of found.items) result fault (spec.texts_at value) }
 {
     match items_of(value) {
         Some(values) => match texts_among(alloc, values)? {
@@ -171,7 +181,9 @@ fn texts_in<'a>(alloc: Global, value: &'a Value) -> Result<Vec<&'a str>, Fail>
 
 /// The texts at a key that is required.
 pub fn texts_at<'a>(alloc: Global, table: &'a Table, key: &str) -> Result<Vec<&'a str>, Fail>
-    ensures { let value = get_member key.now (table_view table.now) in GivesSeen (λ found. map (λ t. t.now) found.items) result (texts_fault value) (texts_at value) }
+    ensures { let value = get_member key.now (table_view table.now) in
+        let fault = spec.texts_fault value in
+        GivesSeen (λ found. texts_of found.items) result fault (spec.texts_at value) }
 {
     match value_at(table, key) {
         Some(value) => texts_in(alloc, value),

@@ -2,8 +2,8 @@
 ghost use Rattle.std.specs.Prelude.{◌≡◌, map};
 ghost use Rattle.toml.specs.View.{table_view};
 ghost use Rattle.em_table.specs.Faults.{first_of};
-ghost use Rattle.em_table.specs.Kept.{GivesSeen, message_in};
-ghost use Rattle.em_table.specs.Tests.{message_faults, message_fault, message_of};
+ghost use Rattle.em_table.specs.Reading.{GivesSeen, groups_of, message_in};
+ghost use Rattle.em_table.specs.Tests.{message_fault, message_faults, message_of};
 
 use crate::faults::Fault;
 use crate::keys::{Need, has_only, number, text};
@@ -28,7 +28,8 @@ pub struct Draft<'a> {
 
 /// A message, or the first fault in its keys.
 fn read_message<'a>(alloc: Global, message: &'a Table) -> Result<Draft<'a>, Fail>
-    ensures { GivesSeen message_in result (first_of (message_faults (table_view message.now))) (message_of (table_view message.now)) }
+    ensures { let group = table_view message.now in
+        GivesSeen message_in result (first_of (message_faults group)) (message_of group) }
 {
     let words = number(message, "words", Need::Required, 1, 16, 1)?;
     let writer = text(message, "writer")?;
@@ -45,7 +46,9 @@ fn read_message<'a>(alloc: Global, message: &'a Table) -> Result<Draft<'a>, Fail
 
 /// The messages, or the first fault in one of them.
 pub fn read_messages<'a>(alloc: Global, messages: &[&'a Table]) -> Result<Items<Draft<'a>>, Fail>
-    ensures { let groups = map (λ t. table_view t.now) messages.now in GivesSeen (λ found. map message_in found) result (first_of (map message_fault groups)) (map message_of groups) }
+    ensures { let groups = groups_of messages.now in
+        let fault = first_of (map message_fault groups) in
+        GivesSeen (map message_in) result fault (map message_of groups) }
 {
     let mut drafts = Items::new(alloc);
     for message in messages {

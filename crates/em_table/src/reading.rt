@@ -5,7 +5,7 @@ ghost use Rattle.toml.specs.Parse.{parse_document};
 ghost use Rattle.toml.specs.View.{table_view};
 ghost use Rattle.em_base.specs.Tables.{IsTable};
 ghost use Rattle.em_table.specs.Faults.{IsFailBy};
-ghost use Rattle.em_table.specs.Kept.{GivesOrFails};
+ghost use Rattle.em_table.specs.Reading.{GivesOrFails};
 ghost use Rattle.em_table.specs.Tests.{fault_in, fault_of, table_of};
 
 use crate::across::{check, message_rows};
@@ -19,12 +19,12 @@ use toml::Table as Group;
 
 /// The table that stands in the groups of a text.
 fn read_groups(alloc: Global, groups: &Group) -> Result<Table, Fail>
-    ensures { GivesOrFails result (fault_in (table_view groups.now)) (table_of (table_view groups.now)) }
+    ensures { let top = table_view groups.now in GivesOrFails result (fault_in top) (table_of top) }
 {
     let top = read_top(alloc, groups)?;
     let tasks = read_tasks(alloc, top.tasks.as_slice(), top.semaphores)?;
     let messages = read_messages(alloc, top.messages.as_slice())?;
-    check(top.horizon, tasks.as_slice(), messages.as_slice())?;
+    check(alloc, top.horizon, tasks.as_slice(), messages.as_slice())?;
     let messages = message_rows(alloc, tasks.as_slice(), messages.as_slice())?;
     Ok(Table {
         horizon: top.horizon,
@@ -47,16 +47,15 @@ fn read_groups(alloc: Global, groups: &Group) -> Result<Table, Fail>
 /// * 26: a background task in a message;
 /// * 27: periods that cause more than 200,000 releases below the horizon.
 pub fn read_table(alloc: Global, text: &str) -> Result<Table, Fail>
-    ensures table { IfOk result (λ table. (top : Members) × (parse_document text.now ≡ Some top) × (fault_in top ≡ None) × (table ≡ table_of top)) }
+    ensures table { IfOk result
+        (λ table. (top : Members) × (parse_document text.now ≡ Some top) × (fault_in top ≡ None)
+        × (table ≡ table_of top)) }
     ensures valid { IfOk result IsTable }
     ensures refused { IfErr result (IsFailBy (fault_of (parse_document text.now))) }
 {
     match toml::table_from_str(alloc, text) {
         Ok(groups) => read_groups(alloc, &groups),
-        Err(error) => if error.is_memory() {
-            Err(Fail::NoMemory)
-        } else {
-            Err(Fault::NoToml.into())
-        },
+        Err(error) if error.is_memory() => Err(Fail::NoMemory),
+        Err(_) => Err(Fault::NoToml.into()),
     }
 }

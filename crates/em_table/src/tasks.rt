@@ -1,20 +1,21 @@
 //! The tasks of a table.
-ghost use Rattle.std.specs.Prelude.{◌≡◌, ◌≤◌, IfOk, IfErr, IfSome, Bool, Some, None, map, option_map, codes, MatchOption};
+ghost use Rattle.std.specs.Prelude.{◌≡◌, ◌≤◌, IfErr, IfOk, IfSome, None, Some, codes, map};
 ghost use Rattle.std.specs.List.{list_all};
-ghost use Rattle.std.specs.Option.{unwrap_or, is_some};
 ghost use Rattle.toml.specs.Data.{get_member};
-ghost use Rattle.toml.specs.View.{view, table_view};
-ghost use Rattle.em_base.specs.Tables.{longest, is_name_byte as may_name};
-ghost use Rattle.em_table.specs.declared.keys.Need.TheVariants.{Required, Optional};
-ghost use Rattle.em_table.specs.Faults.{first_of, IsFailBy, unless};
-ghost use Rattle.em_table.specs.Kept.{Gives, GivesText, GivesSeen, GivesOrFails, IsHeadingOf, IsTimesOf, IsCountsOf, IsPlacesOf};
-ghost use Rattle.em_table.specs.Tests.{is_task_name as names_task, is_entry as names_entry, kind_named as kind_by_name, kind_of, has_line as has_line_key, with_deadlines as need_with_deadlines, period_need as need_of_period, phase_need as need_of_phase, line_need as need_of_line, task_keys as keys_of_task, period_at, deadline_fault, deadline_of, heading_faults, times_faults, counts_faults, uses_faults, places_faults, uses_of, task_faults, task_fault, row_of};
-ghost use Rattle.em_table.specs.Values.{number_fault, number_at, text_fault, text_at, numbers_fault, numbers_at, are_among};
+ghost use Rattle.toml.specs.View.{table_view};
+ghost use Rattle.em_base.specs.Tables.{is_name_byte};
+ghost use Rattle.em_base.specs.Text.{texts_of};
+ghost use Rattle.em_table.specs.Faults.{first_of};
+ghost use Rattle.em_table.specs.Reading.{Gives, GivesOrFails, GivesSeen, GivesText, IsCountsOf, IsHeadingOf, IsPlacesOf, IsTimesOf, groups_of, numbers_of};
+ghost use Rattle.em_table.specs.Tests as spec;
+ghost use Rattle.em_table.specs.Tests.{counts_faults, deadline_fault, deadline_of, heading_faults, is_kind, kind_of, period_at, places_faults, row_of};
+ghost use Rattle.em_table.specs.Tests.{task_fault, task_faults, task_keys, times_faults, uses_faults, uses_of};
+ghost use Rattle.em_table.specs.Values.{text_at, text_fault};
 
 use crate::faults::Fault;
 use crate::keys::{LONGEST, Need, has_only, number, text, value_at};
 use crate::lists::semaphores_at;
-use crate::repeats::has_semaphore_twice;
+use crate::repeats::has_repeat;
 use em_base::{Fail, Items, Kind, Name, SemId, TaskRow};
 use std::alloc::Global;
 use toml::Table;
@@ -38,36 +39,36 @@ const LINED_KEYS: [&str; 7] = ["name", "entry", "kind", "period", "section", "us
 const UNLINED_KEYS: [&str; 5] = ["name", "entry", "kind", "section", "uses"];
 
 /// Whether the byte may stand in a task's name: a letter, a digit, `_` or `-`.
-fn is_name_byte(byte: u8) -> bool
-    ensures { result ≡ may_name byte }
+fn may_stand_in_name(byte: u8) -> bool
+    ensures { result ≡ is_name_byte byte }
 {
     byte == b'_' || byte == b'-' || byte.is_ascii_alphanumeric()
 }
 
 /// Whether all bytes may stand in a task's name.
 fn has_name_bytes(name: &[u8]) -> bool
-    ensures { result ≡ list_all may_name name.now }
+    ensures { result ≡ list_all is_name_byte name.now }
 {
-    name.iter().all(|byte| is_name_byte(*byte))
+    name.iter().all(|byte| may_stand_in_name(*byte))
 }
 
 /// Whether the text may be a task's name.
 fn is_task_name(name: &str) -> bool
-    ensures { result ≡ names_task name.now }
+    ensures { result ≡ spec.is_task_name name.now }
 {
     1 <= name.len() && name.len() <= 32 && has_name_bytes(name.as_bytes())
 }
 
 /// Whether the text may be a task's entry.
 fn is_entry(entry: &str) -> bool
-    ensures { result ≡ names_entry entry.now }
+    ensures { result ≡ spec.is_entry entry.now }
 {
     1 <= entry.len() && entry.len() <= 64
 }
 
 /// The kind of this name.
 fn kind_named(name: &str) -> Option<Kind>
-    ensures { result ≡ kind_by_name name.now }
+    ensures { result ≡ spec.kind_named name.now }
 {
     if name == "timer" {
         Some(Kind::Timer)
@@ -82,7 +83,8 @@ fn kind_named(name: &str) -> Option<Kind>
 
 /// The name of a task.
 fn name_of(task: &Table) -> Result<&str, Fault>
-    ensures { let value = get_member (codes "name") (table_view task.now) in GivesText result (text_fault names_task value) (text_at value) }
+    ensures { let value = get_member (codes "name") (table_view task.now) in
+        GivesText result (text_fault spec.is_task_name value) (text_at value) }
 {
     let name = text(task, "name")?;
     if is_task_name(name) {
@@ -94,7 +96,8 @@ fn name_of(task: &Table) -> Result<&str, Fault>
 
 /// The entry of a task.
 fn entry_of(task: &Table) -> Result<&str, Fault>
-    ensures { let value = get_member (codes "entry") (table_view task.now) in GivesText result (text_fault names_entry value) (text_at value) }
+    ensures { let value = get_member (codes "entry") (table_view task.now) in
+        GivesText result (text_fault spec.is_entry value) (text_at value) }
 {
     let entry = text(task, "entry")?;
     if is_entry(entry) {
@@ -106,7 +109,8 @@ fn entry_of(task: &Table) -> Result<&str, Fault>
 
 /// The kind of a task.
 fn read_kind(task: &Table) -> Result<Kind, Fault>
-    ensures { Gives result (text_fault (λ text. is_some (kind_by_name text)) (get_member (codes "kind") (table_view task.now))) (kind_of (table_view task.now)) }
+    ensures { let group = table_view task.now in
+        Gives result (text_fault is_kind (get_member (codes "kind") group)) (kind_of group) }
 {
     let name = text(task, "kind")?;
     kind_named(name).ok_or(Fault::OutOfRange)
@@ -114,7 +118,7 @@ fn read_kind(task: &Table) -> Result<Kind, Fault>
 
 /// How a task of a kind has a key of the tasks with deadlines.
 fn with_deadlines(need: Need, kind: Kind) -> Need
-    ensures { result ≡ need_with_deadlines need kind }
+    ensures { result ≡ spec.with_deadlines need kind }
 {
     match kind {
         Kind::Timer | Kind::Line => need,
@@ -124,7 +128,7 @@ fn with_deadlines(need: Need, kind: Kind) -> Need
 
 /// How a task of a kind has a period, with a line or without one.
 fn period_need(kind: Kind, lined: bool) -> Need
-    ensures { result ≡ need_of_period kind lined }
+    ensures { result ≡ spec.period_need kind lined }
 {
     match kind {
         Kind::Timer | Kind::Line => Need::Required,
@@ -134,7 +138,7 @@ fn period_need(kind: Kind, lined: bool) -> Need
 
 /// How a task of a kind has a phase.
 fn phase_need(kind: Kind) -> Need
-    ensures { result ≡ need_of_phase kind }
+    ensures { result ≡ spec.phase_need kind }
 {
     match kind {
         Kind::Timer => Need::Optional,
@@ -144,7 +148,7 @@ fn phase_need(kind: Kind) -> Need
 
 /// How a task of a kind has an interrupt line.
 fn line_need(kind: Kind) -> Need
-    ensures { result ≡ need_of_line kind }
+    ensures { result ≡ spec.line_need kind }
 {
     match kind {
         Kind::Timer => Need::Foreign,
@@ -155,14 +159,14 @@ fn line_need(kind: Kind) -> Need
 
 /// Whether the key `line` stands in a task.
 fn has_line(task: &Table) -> bool
-    ensures { result ≡ has_line_key (table_view task.now) }
+    ensures { result ≡ spec.has_line (table_view task.now) }
 {
     value_at(task, "line").is_some()
 }
 
 /// The keys of a task of a kind, with a line or without one.
 fn keys_of(kind: Kind, lined: bool) -> &'static [&'static str]
-    ensures { map (λ key. key.now) result.now ≡ keys_of_task kind lined }
+    ensures { texts_of result.now ≡ task_keys kind lined }
 {
     match kind {
         Kind::Timer => &TIMER_KEYS,
@@ -181,8 +185,11 @@ struct Heading<'a> {
 
 /// What a task is.
 fn read_heading(task: &Table) -> Result<Heading<'_>, Fault>
-    ensures ok { IfOk result (λ heading. (first_of (heading_faults (table_view task.now)) ≡ None) × IsHeadingOf heading (table_view task.now)) }
-    ensures refused { IfErr result (λ fault. first_of (heading_faults (table_view task.now)) ≡ Some fault) }
+    ensures ok { let group = table_view task.now in
+        IfOk result
+        (λ heading. (first_of (heading_faults group) ≡ None) × IsHeadingOf heading group) }
+    ensures refused { let group = table_view task.now in
+        IfErr result (λ fault. first_of (heading_faults group) ≡ Some fault) }
 {
     let name = name_of(task)?;
     let entry = entry_of(task)?;
@@ -203,7 +210,8 @@ struct Times {
 fn read_deadline(task: &Table, kind: Kind, period: Option<u32>) -> Result<Option<u32>, Fault>
     requires kind { kind ≡ kind_of (table_view task.now) }
     requires period { period ≡ period_at (table_view task.now) }
-    ensures { Gives result (deadline_fault (table_view task.now)) (deadline_of (table_view task.now)) }
+    ensures { let group = table_view task.now in
+        Gives result (deadline_fault group) (deadline_of group) }
 {
     let need = with_deadlines(Need::Required, kind);
     number(task, "deadline", need, 1, period.unwrap_or(0), 1)
@@ -212,8 +220,10 @@ fn read_deadline(task: &Table, kind: Kind, period: Option<u32>) -> Result<Option
 /// The times of a task of a kind.
 fn read_times(task: &Table, kind: Kind) -> Result<Times, Fault>
     requires { kind ≡ kind_of (table_view task.now) }
-    ensures ok { IfOk result (λ times. (first_of (times_faults (table_view task.now)) ≡ None) × IsTimesOf times (table_view task.now)) }
-    ensures refused { IfErr result (λ fault. first_of (times_faults (table_view task.now)) ≡ Some fault) }
+    ensures ok { let group = table_view task.now in
+        IfOk result (λ times. (first_of (times_faults group) ≡ None) × IsTimesOf times group) }
+    ensures refused { let group = table_view task.now in
+        IfErr result (λ fault. first_of (times_faults group) ≡ Some fault) }
 {
     let period = number(
         task,
@@ -251,8 +261,10 @@ struct Counts {
 /// How long the sections of a task of a kind are, and how often it writes.
 fn read_counts(task: &Table, kind: Kind) -> Result<Counts, Fault>
     requires { kind ≡ kind_of (table_view task.now) }
-    ensures ok { IfOk result (λ counts. (first_of (counts_faults (table_view task.now)) ≡ None) × IsCountsOf counts (table_view task.now)) }
-    ensures refused { IfErr result (λ fault. first_of (counts_faults (table_view task.now)) ≡ Some fault) }
+    ensures ok { let group = table_view task.now in
+        IfOk result (λ counts. (first_of (counts_faults group) ≡ None) × IsCountsOf counts group) }
+    ensures refused { let group = table_view task.now in
+        IfErr result (λ fault. first_of (counts_faults group) ≡ Some fault) }
 {
     let section = number(task, "section", Need::Optional, 0, LONGEST, 1)?;
     let writes = number(
@@ -271,10 +283,11 @@ fn read_counts(task: &Table, kind: Kind) -> Result<Counts, Fault>
 
 /// The semaphores that a task uses, each of them once.
 fn read_uses(alloc: Global, task: &Table, semaphores: u8) -> Result<Items<SemId>, Fail>
-    ensures { GivesSeen (λ found. map (λ s. s.0) found) result (first_of (uses_faults semaphores (table_view task.now))) (uses_of (table_view task.now)) }
+    ensures { let group = table_view task.now in
+        GivesSeen numbers_of result (first_of (uses_faults semaphores group)) (uses_of group) }
 {
     let uses = semaphores_at(alloc, task, "uses", semaphores)?;
-    if has_semaphore_twice(uses.as_slice()) {
+    if has_repeat(uses.as_slice()) {
         return Err(Fault::Twice.into());
     }
     Ok(uses)
@@ -301,8 +314,10 @@ struct Places {
 /// The interrupt line and the band of a task of a kind, which has no other keys than its kind has.
 fn read_places(task: &Table, kind: Kind) -> Result<Places, Fault>
     requires { kind ≡ kind_of (table_view task.now) }
-    ensures ok { IfOk result (λ places. (first_of (places_faults (table_view task.now)) ≡ None) × IsPlacesOf places (table_view task.now)) }
-    ensures refused { IfErr result (λ fault. first_of (places_faults (table_view task.now)) ≡ Some fault) }
+    ensures ok { let group = table_view task.now in
+        IfOk result (λ places. (first_of (places_faults group) ≡ None) × IsPlacesOf places group) }
+    ensures refused { let group = table_view task.now in
+        IfErr result (λ fault. first_of (places_faults group) ≡ Some fault) }
 {
     let line = number(task, "line", line_need(kind), 0, 31, 1)?;
     let band = number(task, "band", with_deadlines(Need::Optional, kind), 0, 3, 1)?;
@@ -317,7 +332,8 @@ fn read_places(task: &Table, kind: Kind) -> Result<Places, Fault>
 
 /// A task, or the first fault in its keys.
 fn read_task(alloc: Global, task: &Table, semaphores: u8) -> Result<TaskRow, Fail>
-    ensures { GivesOrFails result (first_of (task_faults semaphores (table_view task.now))) (row_of (table_view task.now)) }
+    ensures { let group = table_view task.now in
+        GivesOrFails result (first_of (task_faults semaphores group)) (row_of group) }
 {
     let heading = read_heading(task)?;
     let times = read_times(task, heading.kind)?;
@@ -342,7 +358,8 @@ fn read_task(alloc: Global, task: &Table, semaphores: u8) -> Result<TaskRow, Fai
 
 /// The tasks, or the first fault in one of them.
 pub fn read_tasks(alloc: Global, tasks: &[&Table], semaphores: u8) -> Result<Items<TaskRow>, Fail>
-    ensures { let groups = map (λ t. table_view t.now) tasks.now in GivesOrFails result (first_of (map (task_fault semaphores) groups)) (map row_of groups) }
+    ensures { let groups = groups_of tasks.now in
+        GivesOrFails result (first_of (map (task_fault semaphores) groups)) (map row_of groups) }
 {
     let mut rows = Items::new(alloc);
     for task in tasks {

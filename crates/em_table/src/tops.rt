@@ -1,14 +1,13 @@
 //! The top keys of a table.
-ghost use Rattle.std.specs.Prelude.{◌≡◌, ◌≤◌, IfOk, IfErr, Some, None, map, option_map, codes};
+ghost use Rattle.std.specs.Prelude.{◌≡◌, IfErr, IfOk, None, codes};
 ghost use Rattle.std.specs.Option.{unwrap_or};
 ghost use Rattle.toml.specs.Data.{get_member};
-ghost use Rattle.toml.specs.View.{view, table_view};
-ghost use Rattle.em_base.specs.Tables.{longest, longest_window};
-ghost use Rattle.em_table.specs.declared.keys.Need.TheVariants.{Required, Optional};
+ghost use Rattle.toml.specs.View.{table_view};
+ghost use Rattle.em_base.specs.Tables.{longest_window};
 ghost use Rattle.em_table.specs.Faults.{first_of, IsFailBy};
-ghost use Rattle.em_table.specs.Kept.{Gives, GivesSeen, IsTopOf};
-ghost use Rattle.em_table.specs.Tests.{top_faults, horizon_of, semaphores_of, own_of, shared_of};
-ghost use Rattle.em_table.specs.Values.{number_fault, number_at, tables_fault, tables_at};
+ghost use Rattle.em_table.specs.Reading.{Gives, GivesSeen, IsTopOf, groups_of};
+ghost use Rattle.em_table.specs.Tests.{top_faults};
+ghost use Rattle.em_table.specs.Values.{number_at, number_fault, tables_at, tables_fault};
 
 use crate::faults::Fault;
 use crate::keys::{LONGEST, Need, has_only, number, value_at};
@@ -42,7 +41,9 @@ pub struct Top<'a> {
 
 /// The groups of the tasks, of which there is at least one.
 fn tasks_in<'a>(alloc: Global, top: &'a Table) -> Result<Vec<&'a Table>, Fail>
-    ensures { let value = get_member (codes "task") (table_view top.now) in GivesSeen (λ found. map (λ t. table_view t.now) found.items) result (tables_fault Required 1 32 value) (tables_at value) }
+    ensures { let value = get_member (codes "task") (table_view top.now) in
+        let fault = tables_fault Need.Required 1 32 value in
+        GivesSeen (λ found. groups_of found.items) result fault (tables_at value) }
 {
     match value_at(top, "task") {
         Some(value) => tables_in(alloc, value, 1, 32),
@@ -52,7 +53,9 @@ fn tasks_in<'a>(alloc: Global, top: &'a Table) -> Result<Vec<&'a Table>, Fail>
 
 /// The groups of the messages, of which there may be none.
 fn messages_in<'a>(alloc: Global, top: &'a Table) -> Result<Vec<&'a Table>, Fail>
-    ensures { let value = get_member (codes "message") (table_view top.now) in GivesSeen (λ found. map (λ t. table_view t.now) found.items) result (tables_fault Optional 0 16 value) (tables_at value) }
+    ensures { let value = get_member (codes "message") (table_view top.now) in
+        let fault = tables_fault Need.Optional 0 16 value in
+        GivesSeen (λ found. groups_of found.items) result fault (tables_at value) }
 {
     match value_at(top, "message") {
         Some(value) => tables_in(alloc, value, 0, 16),
@@ -62,7 +65,9 @@ fn messages_in<'a>(alloc: Global, top: &'a Table) -> Result<Vec<&'a Table>, Fail
 
 /// The length of a window at a key, in bytes: whole words.
 fn window(top: &Table, key: &str, default: u32) -> Result<u32, Fault>
-    ensures { let value = get_member key.now (table_view top.now) in Gives result (number_fault Optional 0 longest_window 4 value) (unwrap_or (number_at Optional value) default) }
+    ensures { let value = get_member key.now (table_view top.now) in
+        let fault = number_fault Need.Optional 0 longest_window 4 value in
+        Gives result fault (unwrap_or (number_at Need.Optional value) default) }
 {
     let length = number(top, key, Need::Optional, 0, LONGEST_WINDOW, 4)?;
     Ok(length.unwrap_or(default))
@@ -70,8 +75,9 @@ fn window(top: &Table, key: &str, default: u32) -> Result<u32, Fault>
 
 /// What stands at the top, or the first fault there.
 pub fn read_top<'a>(alloc: Global, top: &'a Table) -> Result<Top<'a>, Fail>
-    ensures ok { IfOk result (λ found. (first_of (top_faults (table_view top.now)) ≡ None) × IsTopOf found (table_view top.now)) }
-    ensures refused { IfErr result (λ fail. IsFailBy (first_of (top_faults (table_view top.now))) fail) }
+    ensures ok { let group = table_view top.now in
+        IfOk result (λ found. (first_of (top_faults group) ≡ None) × IsTopOf found group) }
+    ensures refused { IfErr result (IsFailBy (first_of (top_faults (table_view top.now)))) }
 {
     let horizon = number(top, "horizon", Need::Required, 1, LONGEST, 1)?;
     let semaphores = number(top, "semaphores", Need::Optional, 0, 32, 1)?;

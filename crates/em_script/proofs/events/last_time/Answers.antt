@@ -1,4 +1,4 @@
-use Rattle.em_script.proofs.Ordered.{last-none, last-some}
+use Rattle.em_script.proofs.EventsInOrder.{last-none, last-some}
 use Rattle.em_script.proofs.events.last_time.Goals as goal
 
 pub returns-in-Some : goal.returns-in-Some

@@ -1,5 +1,5 @@
-use Rattle.em_script.proofs.Unique.{events-once, refusal-once, script-or_refusal}
+use Rattle.em_script.proofs.OneScript.{one_list, one_script_refusal, script_or_refused, some_answer}
 use Rattle.em_script.proofs.laws.one_script.Goals as goal
 
 pub returns : goal.returns
-returns c = record { events = events-once; refusal = refusal-once; either = script-or_refusal }
+returns c = record { events = one_list; refusal = one_script_refusal; either = script_or_refused; some = some_answer }

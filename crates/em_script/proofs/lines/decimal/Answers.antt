@@ -1,5 +1,5 @@
 use Rattle.std.proofs.Common.{◌∙◌, sym, arith}
-use Rattle.em_script.proofs.Decimals.{decimal-none, decimal-some}
+use Rattle.em_script.proofs.DecimalNumbers.{decimal-none, decimal-some}
 use Rattle.em_script.proofs.lines.decimal.Goals as goal
 
 pub returns-in_err-n-clause-value : goal.returns-in_err-n-clause-value

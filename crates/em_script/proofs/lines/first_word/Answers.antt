@@ -1,8 +1,8 @@
 use Rattle.std.proofs.Common.{◌≡◌, ◌<◌, ◌∙◌, length, drop, nat_eq, true, false, sym, ap, arith}
 use Rattle.std.proofs.lemmas.Bool.Decides.{nat_tests}
 use Rattle.std.specs.List.{before_first, position_or_len}
-use Rattle.em_asm_read.specs.Text.{is_space}
-use Rattle.em_script.proofs.Wording.{no-word, some-word}
+use Rattle.em_base.specs.Text.{is_space}
+use Rattle.em_script.proofs.FirstWord.{no-word, some-word}
 use Rattle.em_script.proofs.lines.first_word.Goals as goal
 
 pub returns-then-is_empty : goal.returns-then-is_empty

@@ -1,4 +1,4 @@
-use Rattle.em_script.proofs.Decimals.{utf8-digits}
+use Rattle.em_script.proofs.DecimalNumbers.{utf8-digits}
 use Rattle.em_script.proofs.lines.number.Goals as goal
 
 pub returns-in-Err : goal.returns-in-Err

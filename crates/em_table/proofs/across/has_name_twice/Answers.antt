@@ -1,12 +1,11 @@
-use Rattle.std.proofs.Common.{◌∙◌, sym}
+use Rattle.std.proofs.Common.{◌∙◌, ap}
 use Rattle.std.specs.Str.{bytes_eq}
-use Rattle.em_table.proofs.Folds.{repeat_found_at, repeat_later_at}
+use Rattle.em_table.specs.Values.{has_repeat}
+use Rattle.em_base.specs.Text.{texts_of}
+use Rattle.em_table.proofs.MappedTests.{has_repeat-map}
 use Rattle.em_table.proofs.across.has_name_twice.Goals as goal
 
-pub returns-then-name_stands_after : goal.returns-then-name_stands_after
-returns-then-name_stands_after c =
-    sym (c.loop-place.invariant ∙ repeat_found_at bytes_eq (λ row. row.name) c.args.rows.now c.loop-place.place _ c.loop-place-test.true c.name_stands_after.ensures c.if-name_stands_after.true)
-
-pub loop-place-preserved : goal.loop-place-preserved
-loop-place-preserved c =
-    c.loop-place.invariant ∙ repeat_later_at bytes_eq (λ row. row.name) c.args.rows.now c.loop-place.place _ c.loop-place-test.true c.name_stands_after.ensures c.if-name_stands_after.false
+pub returns : goal.returns
+returns c =
+    c.has_repeat.ensures ∙ (has_repeat-map bytes_eq (λ text. text.now) c.as_slice.result.now
+    ∙ (ap (λ texts. has_repeat bytes_eq (texts_of texts)) c.as_slice.ensures.value ∙ ap (has_repeat bytes_eq) c.in_ok-names.ensures))
