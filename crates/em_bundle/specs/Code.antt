@@ -1,70 +1,84 @@
--- What the lines of the code part say, and the application's image. This project's own.
-use Rattle.std.specs.Prelude.{◌≡◌, ℕ, ◌+◌, ◌<◌, ◌⊎◌, Bool, true, false, is_some, List, [], ◌∷◌, length, take, slice_index_or, None}
-use Rattle.std.specs.List.{list_all, list_any}
-use Rattle.std.specs.Str.{bytes_eq}
+-- What the lines of the code part say, and the image of the code. This project's own.
+use Rattle.std.specs.Prelude.{◌≡◌, ◌⊎◌, ℕ, ◌+◌, Bool, true, false, ◌||◌, not, is_some, List, [], ◌∷◌, length, filter, map, slice_index, slice_index_or, Option, Some, None, if◌then◌else◌}
+use Rattle.std.specs.List.{enumerate_from}
 use Rattle.em_base.specs.declared.images.Image.{Image}
 use Rattle.em_base.specs.declared.images.Wait.{Wait}
 use Rattle.em_base.specs.declared.refusals.Refusal.{Refusal}
-use Rattle.em_base.specs.declared.tables.TaskRow.{TaskRow}
+use Rattle.em_base.specs.FirstFault.{AreClear, NamesFirst, by_test}
+use Rattle.em_asm_read.specs.declared.items.Item.{Item}
+use Rattle.em_asm_read.specs.declared.items.Item.TheVariants.{Nothing}
 use Rattle.em_asm_read.specs.declared.items.Line.{Line}
 use Rattle.em_asm_read.specs.Lines.{IsFaulty, IsLine}
-use Rattle.em_asm.specs.Image.{IsImageOf, IsRefused as IsUnassembled}
-use Rattle.em_bundle.specs.Parts.{line_at}
+use Rattle.em_asm.specs.Image.{IsImageOf, IsAssemblyRefused}
+use Rattle.em_bundle.specs.declared.faults.Fault.{Fault}
+use Rattle.em_bundle.specs.declared.faults.Fault.TheVariants.{NotSupported}
+use Rattle.em_bundle.specs.Faults.{code_of}
+
+-- ---- the statements
 
 -- each of the texts is a line that says what stands at its place
 abbrev pub AllSay : List (List ℕ) → List Line → Type 0
 AllSay [] items = items ≡ []
 AllSay (text ∷ texts) items = (item : Line) × (rest : List Line) × (items ≡ item ∷ rest) × IsLine text item × AllSay texts rest
 
--- the refusal names the first of the texts that is a line with a fault, and the code of its first fault; the first text is
--- line `first` of the whole input
-pub record NamesFault (first : ℕ) (texts : List (List ℕ)) (refusal : Refusal) : Type 0 where
-  pub place : ℕ
-  pub within : place < length texts
-  pub items : List Line
-  pub before : AllSay (take place texts) items
-  pub faulty : IsFaulty (line_at texts place) refusal.code
-  pub line : refusal.line ≡ first + place
+abbrev pub is_nothing : Item → Bool
+is_nothing Nothing = true
+is_nothing _ = false
 
--- the texts are lines of assembly that have this image
+-- a line says something: it has a label or a statement
+abbrev pub speaks : Line → Bool
+speaks line = is_some line.label || not (is_nothing line.item)
+
+-- the lines that say something, each with its number, where the first line has the number `first`
+abbrev pub statements_of : ℕ → List Line → List (ℕ × Line)
+statements_of first items = filter (λ statement. speaks statement.1) (enumerate_from first items)
+
+-- these lines, and the number of the one at each place
+abbrev pub lines_in : List (ℕ × Line) → List Line
+lines_in statements = map (λ statement. statement.1) statements
+
+abbrev pub number_in : List (ℕ × Line) → ℕ → ℕ
+number_in statements place = slice_index (map (λ statement. statement.0) statements) place
+
+-- ---- the image
+
+-- the texts are lines of assembly, and their statements have this image; the first text is line `first` of the whole input
 pub record IsCodeOf (first : ℕ) (texts : List (List ℕ)) (image : Image) : Type 0 where
   pub items : List Line
   pub read : AllSay texts items
-  pub assembled : IsImageOf first items image
+  pub assembled : IsImageOf (number_in (statements_of first items)) (lines_in (statements_of first items)) image
 
--- the texts are lines of assembly that have no image together
+-- a text is a line whose first fault has this code
+abbrev pub IsFaultyText : List (List ℕ) → List ℕ → ℕ → Type 0
+IsFaultyText before text code = IsFaulty text code
+
+-- the refusal names the first of the texts that has a fault, and the code of its first fault
+abbrev pub IsMisread : ℕ → List (List ℕ) → Refusal → Type 0
+IsMisread first texts refusal = NamesFirst IsFaultyText (λ code. code) (λ place. first + place) texts refusal
+
+-- the texts are lines of assembly, and their statements have no image together
 pub record HasNoImage (first : ℕ) (texts : List (List ℕ)) (refusal : Refusal) : Type 0 where
   pub items : List Line
   pub read : AllSay texts items
-  pub refused : IsUnassembled first items refusal
+  pub refused : IsAssemblyRefused (number_in (statements_of first items)) (lines_in (statements_of first items)) refusal
 
 -- the refusal of the code part
 abbrev pub IsCodeRefused : ℕ → List (List ℕ) → Refusal → Type 0
-IsCodeRefused first texts refusal = NamesFault first texts refusal ⊎ HasNoImage first texts refusal
+IsCodeRefused first texts refusal = IsMisread first texts refusal ⊎ HasNoImage first texts refusal
 
--- each task starts at a label of the image
-abbrev pub is_label_of : Image → List ℕ → Bool
-is_label_of image name = list_any (λ label. bytes_eq name label.0) image.labels
+-- ---- hints
 
-abbrev pub have_entries : Image → List TaskRow → Bool
-have_entries image rows = list_all (λ row. is_label_of image row.entry) rows
+-- a `waitjob` with a semaphore beside it isn't supported yet
+abbrev pub hint_fault : List Wait → Wait → Option Fault
+hint_fault before wait = if is_some wait.hint then Some NotSupported else None
 
--- a `waitjob` has a semaphore beside it
-abbrev pub is_hinted : Wait → Bool
-is_hinted wait = is_some wait.hint
+abbrev pub line_of_wait : List Wait → ℕ → ℕ
+line_of_wait waits place = (slice_index_or waits place (record { address = 0; line = 0; hint = None })).line
 
--- no `waitjob` before a place has one
-abbrev pub wait_at : List Wait → ℕ → Wait
-wait_at waits place = slice_index_or waits place (record { address = 0; line = 0; hint = None })
+-- no `waitjob` has a semaphore beside it
+abbrev pub AreUnhinted : List Wait → Type 0
+AreUnhinted waits = AreClear (by_test hint_fault) waits (length waits)
 
-abbrev pub AreUnhinted : List Wait → ℕ → Type 0
-AreUnhinted waits place = (i : ℕ) → i < place → is_hinted (wait_at waits i) ≡ false
-
--- the refusal names the first `waitjob` that has one
-pub record IsHinted (waits : List Wait) (refusal : Refusal) : Type 0 where
-  pub place : ℕ
-  pub within : place < length waits
-  pub hinted : is_hinted (wait_at waits place) ≡ true
-  pub before : AreUnhinted waits place
-  pub code : refusal.code ≡ 60
-  pub line : refusal.line ≡ (wait_at waits place).line
+-- the refusal names the first `waitjob` that has one, by its line
+abbrev pub IsHinted : List Wait → Refusal → Type 0
+IsHinted waits refusal = NamesFirst (by_test hint_fault) code_of (line_of_wait waits) waits refusal

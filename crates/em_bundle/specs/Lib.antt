@@ -1,6 +1,5 @@
+pub mod Faults
 pub mod Parts
 pub mod Code
-pub mod Spare
-pub mod Kept
 pub mod Application
-pub mod Valid
+pub mod Walk

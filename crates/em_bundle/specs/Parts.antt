@@ -1,8 +1,10 @@
 -- The parts of a bundle: its header lines, and the lines between them. This project's own.
-use Rattle.std.specs.Prelude.{◌≡◌, ℕ, ◌+◌, ◌<◌, ◌≤◌, ◌⊎◌, Bool, true, false, nat_eq, List, [], ◌∷◌, ◌++◌, length, take, slice_index, slice_index_or, filter, codes}
-use Rattle.std.specs.List.{after_first, before_first, flat_map, position_or_len}
+use Rattle.std.specs.Prelude.{◌≡◌, ◌⊎◌, ℕ, ◌+◌, ◌<◌, ◌≤◌, Bool, true, false, nat_eq, List, [], ◌∷◌, ◌++◌, length, take, filter, slice_index, slice_index_or, codes}
+use Rattle.std.specs.List.{position_or_len, before_first, after_first, flat_map}
 use Rattle.std.specs.Str.{bytes_eq}
 use Rattle.em_base.specs.declared.refusals.Refusal.{Refusal}
+use Rattle.em_bundle.specs.declared.faults.Fault.TheVariants.{MissingPart, MisplacedHeader}
+use Rattle.em_bundle.specs.Faults.{refusal_at}
 
 -- whether a line is a header line: it begins with `%`
 abbrev pub is_header : List ℕ → Bool
@@ -13,8 +15,17 @@ abbrev pub line_at : List (List ℕ) → ℕ → List ℕ
 line_at lines place = slice_index_or lines place []
 
 -- the headers that are due, in order
+abbrev pub table_header : List ℕ
+table_header = codes "%table"
+
+abbrev pub code_header : List ℕ
+code_header = codes "%code"
+
+abbrev pub script_header : List ℕ
+script_header = codes "%script"
+
 abbrev pub headers : List (List ℕ)
-headers = codes "%table" ∷ codes "%code" ∷ codes "%script" ∷ []
+headers = table_header ∷ code_header ∷ script_header ∷ []
 
 -- the header lines among lines, in order
 abbrev pub headers_in : List (List ℕ) → List (List ℕ)
@@ -35,12 +46,26 @@ pub record IsCut (lines : List (List ℕ)) : Type 0 where
 abbrev pub part_of : List ℕ → List (List ℕ) → List (List ℕ)
 part_of header lines = before_first is_header (after_first (bytes_eq header) lines)
 
--- the number of the header line, counted from 1, and that of the first line of its part
+-- the number of the header line, counted from 1
 abbrev pub header_number : List ℕ → List (List ℕ) → ℕ
 header_number header lines = position_or_len (bytes_eq header) lines + 1
 
-abbrev pub first_number : List ℕ → List (List ℕ) → ℕ
-first_number header lines = header_number header lines + 1
+-- the three parts: their lines, and the numbers of the header lines of code and script
+pub record PartLines : Type 0 where
+  pub table : List (List ℕ)
+  pub code : List (List ℕ)
+  pub code_line : ℕ
+  pub script : List (List ℕ)
+  pub script_line : ℕ
+
+abbrev pub parts_of : List (List ℕ) → PartLines
+parts_of lines = record {
+  table = part_of table_header lines;
+  code = part_of code_header lines;
+  code_line = header_number code_header lines;
+  script = part_of script_header lines;
+  script_line = header_number script_header lines;
+}
 
 -- lines as a text: each of them followed by a line feed
 abbrev pub text_of : List (List ℕ) → List ℕ
@@ -51,8 +76,7 @@ text_of lines = flat_map (λ line. line ++ 10 ∷ []) lines
 -- the first line is no header line, or there is none
 pub record IsHeadless (lines : List (List ℕ)) (refusal : Refusal) : Type 0 where
   pub headless : is_header (line_at lines 0) ≡ false
-  pub code : refusal.code ≡ 40
-  pub line : refusal.line ≡ 1
+  pub named : refusal ≡ refusal_at MissingPart 1
 
 -- a header line isn't the next one due, and it is the first such line
 pub record IsMisplaced (lines : List (List ℕ)) (refusal : Refusal) : Type 0 where
@@ -63,8 +87,7 @@ pub record IsMisplaced (lines : List (List ℕ)) (refusal : Refusal) : Type 0 wh
   pub header : is_header (line_at lines place) ≡ true
   pub before : AreFirst (take place lines) count
   pub other : bytes_eq (line_at lines place) (slice_index_or headers count []) ≡ false
-  pub code : refusal.code ≡ 41
-  pub line : refusal.line ≡ place + 1
+  pub named : refusal ≡ refusal_at MisplacedHeader (place + 1)
 
 -- headers are due at the end
 pub record IsShort (lines : List (List ℕ)) (refusal : Refusal) : Type 0 where
@@ -72,8 +95,7 @@ pub record IsShort (lines : List (List ℕ)) (refusal : Refusal) : Type 0 where
   pub count : ℕ
   pub before : AreFirst lines count
   pub due : count < length headers
-  pub code : refusal.code ≡ 40
-  pub line : refusal.line ≡ length lines + 1
+  pub named : refusal ≡ refusal_at MissingPart (length lines + 1)
 
 -- the refusal of lines whose parts aren't in order
 abbrev pub IsUncut : List (List ℕ) → Refusal → Type 0

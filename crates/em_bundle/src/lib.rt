@@ -1,13 +1,15 @@
 //! The application that the bytes of a bundle stand for: its parts, and what each of them says.
 #![tactic(auto)]
 
-pub mod code;
-pub mod laws;
-pub mod loading;
-pub mod parts;
+mod code;
+mod faults;
+mod laws;
+mod loading;
+mod parts;
 #[cfg(test)]
 mod tests;
-pub mod texts;
+mod texts;
 
+pub use faults::Fault;
 pub use laws::one_application;
 pub use loading::load;

@@ -1,140 +1,124 @@
 //! The parts of a bundle: the header lines, and the lines between them.
-ghost use Rattle.std.specs.Prelude.{◌≡◌, ◌<◌, ◌≤◌, ◌^◌, true, [], length, map, slice_index_or, IfErr, IfOk, MatchOption, OnOk, string_bytes};
-ghost use Rattle.std.specs.List.{position_or_len};
-ghost use Rattle.std.specs.Str.{bytes_eq};
-ghost use Rattle.em_bundle.specs.Kept.{IsNext, IsOther};
-ghost use Rattle.em_bundle.specs.Parts as spec;
-ghost use Rattle.em_bundle.specs.Parts.{IsCut, IsUncut, headers, part_of, text_of};
+ghost use Rattle.std.specs.Prelude.{◌≡◌, ◌<◌, ◌≤◌, ◌+◌, ◌^◌, length, IfErr, IfOk};
+ghost use Rattle.std.specs.Str.Lines.{lines};
+ghost use Rattle.em_bundle.specs.Parts.{IsCut, IsUncut, is_header, line_at, parts_of};
+ghost use Rattle.em_bundle.specs.Walk.{IsFront, IsHeaded, IsParted, IsPassed, IsUnparted, part_lines};
 
+use crate::faults::Fault;
+use crate::texts::next_line;
 use em_base::Refusal;
-use std::alloc::{AllocError, Global};
 
-/// The code of a refusal: a part is missing.
-const MISSING: u16 = 40;
-
-/// The code of a refusal: a header line isn't the next one that is due.
-const MISPLACED: u16 = 41;
-
-/// How many headers are due.
-const COUNT: usize = 3;
-
-/// Whether a line is a header line: it begins with `%`.
-fn is_header(line: &str) -> bool
-    ensures { result ≡ spec.is_header line.now }
-{
-    line.as_bytes().first() == Some(&b'%')
+/// The parts of a bundle, each as a slice of its text.
+#[derive(Clone, Copy)]
+pub struct Parts<'a> {
+    /// The task table.
+    pub table: &'a str,
+    /// The code.
+    pub code: &'a str,
+    /// The number of the code's header line, counted from 1.
+    pub code_line: u32,
+    /// The script.
+    pub script: &'a str,
+    /// The number of the script's header line, counted from 1.
+    pub script_line: u32,
 }
 
-/// Whether the header line is the one that is due after so many.
-fn is_due(line: &str, count: usize) -> bool
-    requires header { spec.is_header line.now ≡ true }
-    requires known { count ≤ 3 }
-    ensures { result ≡ bytes_eq line.now (slice_index_or headers count []) }
+/// What follows the lines before the first header line, which begins with `%`.
+fn skip_to_header(text: &str) -> &str
+    ensures passed { IsPassed text.entry.now result.now }
+    ensures headed { IsHeaded (lines result.now) }
 {
-    match count {
-        0 => line == "%table",
-        1 => line == "%code",
-        2 => line == "%script",
-        _ => false,
+    let mut rest = text;
+    'lines: while !rest.starts_with('%') {
+        match next_line(rest) {
+            Some((_, after)) => rest = after,
+            None => break,
+        }
     }
+    rest
 }
 
-/// How many headers have come after a line, where so many came before it; none where it is a header line that isn't due.
-fn next_count(line: &str, count: usize) -> Option<usize>
-    requires { count ≤ 3 }
-    ensures { MatchOption result (IsOther line.now count) (IsNext line.now count) }
+/// The lines of a text before the first header line, and what follows them.
+fn split_at_header(text: &str) -> (&str, &str)
+    ensures { IsFront (lines text.entry.now) (lines result.0.now) (lines result.1.now) }
 {
-    if !is_header(line) {
-        return Some(count);
+    let rest = skip_to_header(text);
+    text.split_at(text.len() - rest.len())
+}
+
+/// How many lines a text has.
+fn line_count(text: &str) -> usize
+    ensures { result ≡ length (lines text.now) }
+{
+    text.lines().count()
+}
+
+/// A part of a bundle, what follows it, and the number of the line that follows it.
+#[derive(Clone, Copy)]
+struct Part<'a> {
+    text: &'a str,
+    rest: &'a str,
+    next: u32,
+}
+
+/// The part of a header with which the text is to begin, where the first line of the text has this number. Refused with 40 at
+/// that line where the text is empty, and with 41 where the header is another.
+fn next_part<'a>(text: &'a str, header: &str, number: u32) -> Result<Part<'a>, Refusal>
+    requires { number + length (lines text.now) < 2 ^ 32 }
+    ensures part { IfOk result (λ found.
+        IsParted header.now (lines text.entry.now) (lines found.text.now) (lines found.rest.now)) }
+    ensures next { IfOk result (λ found. found.next ≡ number + 1 + length (lines found.text.now)) }
+    ensures refused { IfErr result (IsUnparted header.now number (lines text.entry.now)) }
+{
+    let Some((first, after)) = next_line(text) else {
+        return Err(Fault::MissingPart.at(number));
+    };
+    if first != header {
+        return Err(Fault::MisplacedHeader.at(number));
     }
-    if is_due(line, count) {
-        Some(count + 1)
-    } else {
-        None
-    }
+    let (text, rest) = split_at_header(after);
+    Ok(Part {
+        text,
+        rest,
+        next: number + 1 + line_count(text) as u32,
+    })
 }
 
 /// Whether the first line is a header line.
-fn is_headed(lines: &[&str]) -> bool
-    ensures { result ≡ spec.is_header (spec.line_at (map (λ line. line.now) lines.now) 0) }
+fn is_headed(text: &str) -> bool
+    ensures { result ≡ is_header (line_at (lines text.now) 0) }
 {
-    match lines.first() {
-        Some(line) => is_header(*line),
+    match next_line(text) {
+        Some((line, _)) => line.starts_with('%'),
         None => false,
     }
 }
 
-/// Whether the header lines are those that are due, in order. Refused with 40 at line 1 where the first line is no header
-/// line; else with 41 at the first header line that isn't the next one due; else with 40 at the number of lines plus 1,
-/// where headers are due at the end.
-pub fn check_headers(lines: &[&str]) -> Result<(), Refusal>
-    requires few { length lines.now < 2 ^ 31 }
-    ensures ok { OnOk result (IsCut (map (λ line. line.now) lines.now)) }
-    ensures refused { IfErr result (IsUncut (map (λ line. line.now) lines.now)) }
+/// The parts of a bundle. Refused with 40 at line 1 where the first line is no header line; else with 41 at the first header
+/// line that isn't the next one due; else with 40 at the number of lines plus 1, where headers are due at the end.
+pub fn cut(text: &str) -> Result<Parts<'_>, Refusal>
+    requires { length (lines text.now) < 2 ^ 31 }
+    ensures cut { IfOk result (λ parts. IsCut (lines text.entry.now)) }
+    ensures parts { IfOk result (λ parts. part_lines parts ≡ parts_of (lines text.entry.now)) }
+    ensures counted { IfOk result (λ parts. let count = length (lines text.entry.now) in
+        (parts.code_line + length (lines parts.code.now) ≤ count)
+        × (parts.script_line + length (lines parts.script.now) ≤ count)) }
+    ensures refused { IfErr result (IsUncut (lines text.entry.now)) }
 {
-    if !is_headed(lines) {
-        return Err(Refusal {
-            code: MISSING,
-            line: 1,
-        });
+    if !is_headed(text) {
+        return Err(Fault::MissingPart.at(1));
     }
-    let mut count = 0;
-    for (place, line) in lines.iter().enumerate() {
-        match next_count(*line, count) {
-            Some(next) => count = next,
-            None => {
-                return Err(Refusal {
-                    code: MISPLACED,
-                    line: place as u32 + 1,
-                });
-            }
-        }
+    let table = next_part(text, "%table", 1)?;
+    let code = next_part(table.rest, "%code", table.next)?;
+    let script = next_part(code.rest, "%script", code.next)?;
+    if next_line(script.rest).is_some() {
+        return Err(Fault::MisplacedHeader.at(script.next));
     }
-    if count < COUNT {
-        return Err(Refusal {
-            code: MISSING,
-            line: lines.len() as u32 + 1,
-        });
-    }
-    Ok(())
-}
-
-/// The place of the first line that is this header, or how many lines there are.
-pub fn place_of(lines: &[&str], header: &str) -> usize
-    ensures place { result ≡ position_or_len (λ line. bytes_eq header.now line.now) lines.now }
-    ensures within { result ≤ length lines.now }
-{
-    lines.iter().take_while(|line| header != **line).count()
-}
-
-/// How many lines stand before the first header line.
-fn part_length(lines: &[&str]) -> usize
-    ensures place { result ≡ position_or_len (λ line. spec.is_header line.now) lines.now }
-    ensures within { result ≤ length lines.now }
-{
-    lines.iter().take_while(|line| !is_header(**line)).count()
-}
-
-/// The lines of a part: those after its header line, up to the next header line or the end.
-pub fn part<'a, 'b>(lines: &'a [&'b str], header: &str) -> &'a [&'b str]
-    ensures { map (λ line. line.now) result.now ≡ part_of header.now (map (λ line. line.now) lines.now) }
-{
-    let place = place_of(lines, header);
-    if place == lines.len() {
-        return &lines[place..];
-    }
-    let rest = &lines[place + 1..];
-    &rest[..part_length(rest)]
-}
-
-/// The lines as a text: each of them followed by a line feed.
-pub fn join(alloc: Global, lines: &[&str]) -> Result<String, AllocError>
-    ensures { IfOk result (λ text. string_bytes text ≡ text_of (map (λ line. line.now) lines.now)) }
-{
-    let mut text = String::new(alloc);
-    for line in lines {
-        text.push_str(*line)?;
-        text.push('\n')?;
-    }
-    Ok(text)
+    Ok(Parts {
+        table: table.text,
+        code: code.text,
+        code_line: table.next,
+        script: script.text,
+        script_line: code.next,
+    })
 }

@@ -1,25 +1,31 @@
-use Rattle.std.proofs.Common.{◌∙◌, ℕ, List, map, ap, subst}
-use denote.Ref.{Bor}
-use Rattle.em_asm.specs.Image.{IsFailOf, IsImageOf}
-use Rattle.em_bundle.specs.Kept.{IsNumbered}
-use Rattle.em_bundle.specs.Spare.{numbered}
-use Rattle.em_bundle.proofs.Keeping.{coded, uncoded}
+use Rattle.std.proofs.Common.{ap, arith, length, subst, sym}
+use Rattle.std.proofs.lemmas.Result.{IfErr-weaker, IfOk-weaker}
+use Rattle.std.specs.List.{All}
+use Rattle.std.specs.Prelude.{slice_index}
+use Rattle.std.specs.Str.Lines.{lines}
+use Rattle.em_asm_read.specs.Fitting.{LineFits}
+use Rattle.em_asm.specs.Image.{IsAssemblyFail, IsImageOf}
+use Rattle.em_bundle.specs.Code.{IsCodeOf}
+use Rattle.em_bundle.specs.Walk.{IsCodeFail}
+use Rattle.em_bundle.proofs.StatementsRead.{as-many, code-found, code-refused}
 use Rattle.em_bundle.proofs.code.read_code.Goals as goal
 
-pub returns-in-Ok-clause-image : goal.returns-in-Ok-clause-image
-returns-in-Ok-clause-image c =
-    (coded c.args.first (map (λ (line : Bor (List ℕ)). line.now) c.args.lines.now) c.in_ok-kept.kept c.in-Ok.image c.in_ok-numbered-in-Ok.field-0 c.in_ok-kept.ensures.read
-    (subst (λ ls. IsImageOf 0 ls c.in-Ok.image) c.as_slice.ensures c.in-Ok.ensures.image)
-    (c.in_ok-numbered-in-Ok.ensures ∙ ap (λ ns. numbered ns c.in-Ok.image) c.as_slice-numbers.ensures) c.in-Ok.ensures.whole).0
+pub assemble_numbered-requires : goal.assemble_numbered-requires
+assemble_numbered-requires c = record {
+  numbered = omega (arith, ap length c.as_slice-2.ensures, ap length c.as_slice.ensures, as-many c.args.first (lines c.args.text.now) c.in_ok-found.found c.in_ok-found.ensures.read);
+  fits = subst (All LineFits) (sym c.as_slice-2.ensures) c.in_ok-found.ensures.fits;
+}
 
-pub returns-in-Ok-clause-whole : goal.returns-in-Ok-clause-whole
-returns-in-Ok-clause-whole c =
-    (coded c.args.first (map (λ (line : Bor (List ℕ)). line.now) c.args.lines.now) c.in_ok-kept.kept c.in-Ok.image c.in_ok-numbered-in-Ok.field-0 c.in_ok-kept.ensures.read
-    (subst (λ ls. IsImageOf 0 ls c.in-Ok.image) c.as_slice.ensures c.in-Ok.ensures.image)
-    (c.in_ok-numbered-in-Ok.ensures ∙ ap (λ ns. numbered ns c.in-Ok.image) c.as_slice-numbers.ensures) c.in-Ok.ensures.whole).1
+pub returns-clause-image : goal.returns-clause-image
+returns-clause-image c =
+    IfOk-weaker c.assemble_numbered.result (IsImageOf (λ place. slice_index c.as_slice.result.now place) c.as_slice-2.result.now) (IsCodeOf c.args.first (lines c.args.text.now))
+    (λ image h. code-found c.args.first (lines c.args.text.now) c.in_ok-found.found c.as_slice-2.result.now c.as_slice.result.now image c.in_ok-found.ensures.read
+    c.as_slice-2.ensures c.as_slice.ensures h)
+    c.assemble_numbered.ensures.image
 
 pub returns-clause-refused : goal.returns-clause-refused
 returns-clause-refused c =
-    uncoded c.args.first (map (λ (line : Bor (List ℕ)). line.now) c.args.lines.now) c.in_ok-kept.kept c.in-Err.fail c.with_number.result c.in_ok-kept.ensures.read
-    (subst (λ ls. IsFailOf 0 ls c.in-Err.fail) c.as_slice.ensures c.in-Err.ensures.refused)
-    (subst (λ ns. IsNumbered ns c.in-Err.fail c.with_number.result) c.as_slice-numbers.ensures c.with_number.ensures)
+    IfErr-weaker c.assemble_numbered.result (IsAssemblyFail (λ place. slice_index c.as_slice.result.now place) c.as_slice-2.result.now) (IsCodeFail c.args.first (lines c.args.text.now))
+    (λ fail h. code-refused c.args.first (lines c.args.text.now) c.in_ok-found.found c.as_slice-2.result.now c.as_slice.result.now fail c.in_ok-found.ensures.read
+    c.as_slice-2.ensures c.as_slice.ensures h)
+    c.assemble_numbered.ensures.refused

@@ -1,42 +1,22 @@
-use Rattle.em_bundle.proofs.Refusals.{once}
-use Rattle.em_bundle.proofs.Unique.{either, one}
+use Rattle.em_bundle.proofs.OneApplication.{Laws, application_or_refused, one_application}
+use Rattle.em_bundle.proofs.OneRefusal.{one_refusal}
+use Rattle.em_bundle.proofs.SomeApplication.{some_application}
 use Rattle.em_bundle.proofs.laws.one_application.Goals as goal
 
-pub returns-clause-app : goal.returns-clause-app
-returns-clause-app c = one record {
-  line = c.one_meaning.ensures.line;
-  fault = c.one_meaning.ensures.fault;
-  either = c.one_meaning.ensures.either;
-  image = c.one_image.ensures.image;
-  unassembled = c.one_image.ensures.refusal;
-  assembled = c.one_image.ensures.either;
-  events = c.one_script.ensures.events;
-  unscripted = c.one_script.ensures.refusal;
-  scripted = c.one_script.ensures.either;
-}
-
-pub returns-clause-refusal : goal.returns-clause-refusal
-returns-clause-refusal c = once record {
-  line = c.one_meaning.ensures.line;
-  fault = c.one_meaning.ensures.fault;
-  either = c.one_meaning.ensures.either;
-  image = c.one_image.ensures.image;
-  unassembled = c.one_image.ensures.refusal;
-  assembled = c.one_image.ensures.either;
-  events = c.one_script.ensures.events;
-  unscripted = c.one_script.ensures.refusal;
-  scripted = c.one_script.ensures.either;
-}
-
-pub returns-clause-either : goal.returns-clause-either
-returns-clause-either c = either record {
-  line = c.one_meaning.ensures.line;
-  fault = c.one_meaning.ensures.fault;
-  either = c.one_meaning.ensures.either;
-  image = c.one_image.ensures.image;
-  unassembled = c.one_image.ensures.refusal;
-  assembled = c.one_image.ensures.either;
-  events = c.one_script.ensures.events;
-  unscripted = c.one_script.ensures.refusal;
-  scripted = c.one_script.ensures.either;
-}
+pub returns : goal.returns
+returns c =
+    let laws : Laws = record {
+      line_or_fault = c.one_meaning.ensures.some;
+      one_line = c.one_meaning.ensures.line;
+      one_fault = c.one_meaning.ensures.fault;
+      line_not_fault = c.one_meaning.ensures.either;
+      image_or_refusal = c.one_image.ensures.some;
+      one_image = c.one_image.ensures.image;
+      one_image_refusal = c.one_image.ensures.refusal;
+      image_not_refusal = c.one_image.ensures.either;
+      script_or_refusal = c.one_script.ensures.some;
+      one_script = c.one_script.ensures.events;
+      one_script_refusal = c.one_script.ensures.refusal;
+      script_not_refusal = c.one_script.ensures.either;
+    } in
+    record { some = some_application laws; app = one_application laws; refusal = one_refusal laws; either = application_or_refused laws }

@@ -1,4 +1,4 @@
-use Rattle.em_bundle.proofs.Answered.{complete, refuses}
+use Rattle.em_bundle.proofs.Loaded.{complete, refuses}
 use Rattle.em_bundle.proofs.loading.load.Goals as goal
 
 pub returns-clause-complete : goal.returns-clause-complete

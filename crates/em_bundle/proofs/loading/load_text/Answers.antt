@@ -1,9 +1,7 @@
-use Rattle.std.proofs.Common.{◌∙◌, ap, map, List, ℕ}
-use denote.Ref.{Bor}
-use Rattle.em_bundle.proofs.Answered.{text_fails}
+use Rattle.em_bundle.specs.Walk.{part_lines}
+use Rattle.em_bundle.proofs.Loaded.{text-fails}
 use Rattle.em_bundle.proofs.loading.load_text.Goals as goal
 
-pub returns-clause-refused : goal.returns-clause-refused
-returns-clause-refused c =
-    text_fails c.args.text.now (map (λ (line : Bor (List ℕ)). line.now) c.as_slice.result.now) c.load_lines.result c.utf8.text
-    (ap (map (λ (line : Bor (List ℕ)). line.now)) c.as_slice.ensures.value ∙ c.in_ok-lines.ensures.lines) c.load_lines.ensures.refused
+pub returns-in-Ok-clause-refused : goal.returns-in-Ok-clause-refused
+returns-in-Ok-clause-refused c =
+    text-fails c.args.text.now (part_lines c.in-Ok.parts) c.load_parts.result c.utf8.text c.in-Ok.ensures.cut c.in-Ok.ensures.parts c.load_parts.ensures.refused
