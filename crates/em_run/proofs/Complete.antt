@@ -1,55 +1,15 @@
 -- What comes where nothing is amiss, and where the bytes alone are.
-use Rattle.std.proofs.Common.{◌≡◌, ◌≢◌, ◌∙◌, ℕ, ◌+◌, ◌<◌, ◌≤◌, ◌⊎◌, Bool, true, false, List, [], ◌++◌, length, Option, Some, None, inl, inr, refl, sym, ap, subst, arith, append-nil, length-append}
+use Rattle.std.proofs.Common.{◌≡◌, ◌≢◌, ◌∙◌, ℕ, ◌+◌, ◌<◌, ◌≤◌, ◌⊎◌, List, [], ◌++◌, length, Option, Some, None, inl, inr, refl, sym, ap, subst, arith, append-nil, length-append}
 use Rattle.em_base.specs.declared.apps.App.{App}
 use Rattle.em_base.specs.declared.refusals.Refusal.{Refusal}
-use Rattle.em_bundle.specs.Application.{IsApplication, IsRefused}
-use Rattle.em_bundle.proofs.Refusals.{same_refusal}
-use Rattle.em_bundle.proofs.Unique.{both_ways}
+use Rattle.em_bundle.specs.Application.{IsApplication}
 use Rattle.em_io.specs.Bytes.{input_limit, Rose, then_left, IsAtEnd, Took}
 use Rattle.em_run.specs.declared.commands.Command.{Command}
-use Rattle.em_run.specs.declared.commands.Command.TheVariants.{Run, List as ListCode}
 use Rattle.em_run.specs.declared.status.Status.{Status}
 use Rattle.em_run.specs.declared.status.Status.TheVariants.{Done, Usage, ReadFault, WriteFault, TooLong, Malformed, NoMemory}
-use Rattle.em_run.specs.Alone.{is_alone}
-use Rattle.em_run.specs.Commands.{IsCommand, command_text}
+use Rattle.em_run.specs.Commands.{IsCommand}
 use Rattle.em_run.specs.Output.{IsCarriedOut, IsDue, IsDueForWords, IsOutput, IsOutputOf, IsRefusalText, IsRefusedBy, ReadsAll, ReadsWithin, Reading, refusal_text}
-
--- what bundles keep
-pub record Laws : Type 0 where
-  pub app : (bytes : List ℕ) (one other : App) → IsApplication bytes one → IsApplication bytes other → one ≡ other
-  pub refusal : (bytes : List ℕ) (one other : Refusal) → IsRefused bytes one → IsRefused bytes other → one ≡ other
-  pub either : (bytes : List ℕ) (app : App) (refusal : Refusal) → IsApplication bytes app → IsRefused bytes refusal → ⊥
-
--- ---- words are one command
-
-same_text : (one other : Command) → command_text one ≡ command_text other → one ≡ other
-same_text Run Run e = refl
-same_text Run ListCode e = absurd (omega (arith, ap length e))
-same_text ListCode Run e = absurd (omega (arith, ap length e))
-same_text ListCode ListCode e = refl
-
-same_some : (one other : List ℕ) → Some one ≡ Some other → one ≡ other
-same_some one other e = cc
-
-one_command : (words : List (List ℕ)) (one other : Command) → IsCommand words one → IsCommand words other → one ≡ other
-one_command words one other h k = same_text one other (same_some (command_text one) (command_text other) (sym h.named ∙ k.named))
-
--- ---- bytes aren't both carried out and refused
-
-not_both : Laws → (command : Command) (bytes : List ℕ) (app : App) (refusal : Refusal) → IsApplication bytes app → IsCarriedOut command app → IsRefusedBy command bytes refusal → ⊥
-not_both laws command bytes app refusal stands carried (inl h) = laws.either bytes app refusal stands h
-not_both laws command bytes app refusal stands carried (inr h) =
-    let same : h.app ≡ app = laws.app bytes h.app app h.stands stands in
-    let alone : is_alone app ≡ true = subst (λ command. IsCarriedOut command app) h.run carried in
-    both_ways (is_alone app) (ap is_alone (sym same) ∙ h.more) alone
-
--- ---- bytes are refused once
-
-one_refusal : Laws → (command : Command) (bytes : List ℕ) (one other : Refusal) → IsRefusedBy command bytes one → IsRefusedBy command bytes other → one ≡ other
-one_refusal laws command bytes one other (inl h) (inl k) = laws.refusal bytes one other h k
-one_refusal laws command bytes one other (inl h) (inr k) = absurd (laws.either bytes k.app one k.stands h)
-one_refusal laws command bytes one other (inr h) (inl k) = absurd (laws.either bytes h.app other h.stands k)
-one_refusal laws command bytes one other (inr h) (inr k) = same_refusal one other (h.code ∙ sym k.code) (h.line ∙ sym k.line)
+use Rattle.em_run.proofs.OneAnswer.{BundleLaws, not_both, one_command, one_refusal}
 
 -- ---- what was read, where the source tells it
 
@@ -96,14 +56,14 @@ too_long r bytes taken told few =
     let within = took_all bytes taken.0 r.left_after (sym told ∙ taken.2) in
     absurd (omega (arith, within, taken.1, few))
 
-output_of : Laws → (command : Command) (bytes text : List ℕ) (app : App) → IsApplication bytes app → IsOutputOf command bytes text → IsOutput command app text
+output_of : BundleLaws → (command : Command) (bytes text : List ℕ) (app : App) → IsApplication bytes app → IsOutputOf command bytes text → IsOutput command app text
 output_of laws command bytes text app stands out = subst (λ a. IsOutput command a text) (laws.app bytes out.app app out.stands stands) out.output
 
-refusal_of : Laws → (command : Command) (bytes text : List ℕ) (refusal : Refusal) → IsRefusedBy command bytes refusal → IsRefusalText command bytes text → text ≡ refusal_text refusal.code refusal.line
+refusal_of : BundleLaws → (command : Command) (bytes text : List ℕ) (refusal : Refusal) → IsRefusedBy command bytes refusal → IsRefusalText command bytes text → text ≡ refusal_text refusal.code refusal.line
 refusal_of laws command bytes text refusal refused named =
     named.names ∙ ap (λ r. refusal_text r.code r.line) (one_refusal laws command bytes named.refusal refusal named.refused refused)
 
-pub complete : Laws → (words : List (List ℕ)) (r : Reading) (s : Status) (text : List ℕ) (command : Command) (bytes : List ℕ) (app : App) → IsCommand words command → r.left_before ≡ Some bytes
+pub complete : BundleLaws → (words : List (List ℕ)) (r : Reading) (s : Status) (text : List ℕ) (command : Command) (bytes : List ℕ) (app : App) → IsCommand words command → r.left_before ≡ Some bytes
     → length bytes ≤ input_limit → IsApplication bytes app → IsCarriedOut command app → (Rose r.faults_before r.faults_after → ⊥) → IsDue words r s text
     → (s ≡ NoMemory) ⊎ ((s ≡ Done) × IsOutput command app text)
 complete laws words r Done text command bytes app w told few stands carried still d =
@@ -119,7 +79,7 @@ complete laws words r Malformed text command bytes app w told few stands carried
     let by : IsRefusedBy command d.due.bytes refusal = subst (λ c. IsRefusedBy c d.due.bytes refusal) (command_of words r Malformed text command d w) d.due.due.refused in
     absurd (not_both laws command bytes app refusal stands carried (subst (λ b. IsRefusedBy command b refusal) (same_bytes r bytes d.due.bytes told d.due.read) by))
 
-pub refuses : Laws → (words : List (List ℕ)) (r : Reading) (s : Status) (text : List ℕ) (command : Command) (bytes : List ℕ) (refusal : Refusal) → IsCommand words command → r.left_before ≡ Some bytes
+pub refuses : BundleLaws → (words : List (List ℕ)) (r : Reading) (s : Status) (text : List ℕ) (command : Command) (bytes : List ℕ) (refusal : Refusal) → IsCommand words command → r.left_before ≡ Some bytes
     → length bytes ≤ input_limit → IsRefusedBy command bytes refusal → (Rose r.faults_before r.faults_after → ⊥) → IsDue words r s text
     → (s ≡ NoMemory) ⊎ ((s ≡ Malformed) × (text ≡ refusal_text refusal.code refusal.line))
 refuses laws words r Malformed text command bytes refusal w told few refused still d =

@@ -1,3 +1,6 @@
-pub mod Again
+pub mod ListsAgain
+pub mod OneAnswer
 pub mod Complete
 pub mod Stepping
+pub mod Loading
+pub mod PlainLoading

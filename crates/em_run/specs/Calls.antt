@@ -45,12 +45,12 @@ call_outcome registers =
     else Refuses E_CALL
 
 -- the registers with an answer in a0, at the instruction after the call
-abbrev pub answered : Registers → ℕ → Registers
-answered registers answer =
+abbrev pub after_answer : Registers → ℕ → Registers
+after_answer registers answer =
     with_pc (with_register registers 10 answer) (sum registers.pc 4)
 
 -- the registers after a call: a refusal answers its code modulo 2^32, out answers 0, and exit stays at the call
 abbrev pub registers_after : CallOutcome → Registers → Registers
-registers_after (Refuses code) registers = answered registers (cast_unsigned w32 code)
-registers_after (Puts port word) registers = answered registers 0
+registers_after (Refuses code) registers = after_answer registers (cast_unsigned w32 code)
+registers_after (Puts port word) registers = after_answer registers 0
 registers_after Exits registers = registers

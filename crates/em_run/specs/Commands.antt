@@ -42,10 +42,6 @@ pub record IsCommand (words : List Text) (command : Command) : Type 0 where
   pub named : value_in words (codes "COMMAND") ≡ Some (command_text command)
   pub unnumbered : value_in words (codes "number") ≡ None
 
--- the words are one of the commands
-abbrev pub HasCommand : List Text → Type 0
-HasCommand words = (command : Command) × IsCommand words command
-
 -- the words are none of the commands
 abbrev pub IsNoCommand : List Text → Type 0
 IsNoCommand words = (command : Command) → IsCommand words command → ⊥

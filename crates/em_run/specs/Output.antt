@@ -7,7 +7,9 @@ use Rattle.em_base.specs.declared.refusals.Fail.TheVariants.{Refused, NoMemory a
 use Rattle.em_base.specs.declared.refusals.Refusal.{Refusal}
 use Rattle.em_io.specs.Bytes.{input_limit, Rose, then_left, and_then, IsAtEnd, Took}
 use Rattle.em_show.specs.Listing.{IsListing}
-use Rattle.em_bundle.specs.Application.{IsApplication, IsRefused}
+use Rattle.em_bundle.specs.declared.faults.Fault.TheVariants.{NotSupported}
+use Rattle.em_bundle.specs.Application.{IsApplication, IsBundleRefused}
+use Rattle.em_bundle.specs.Faults.{refusal_at}
 use Rattle.em_run.specs.declared.commands.Command.{Command}
 use Rattle.em_run.specs.declared.commands.Command.TheVariants.{Run, List as ListCode}
 use Rattle.em_run.specs.declared.status.Status.{Status}
@@ -73,18 +75,17 @@ pub record IsNotRun (command : Command) (bytes : List ℕ) (refusal : Refusal) :
   pub run : command ≡ Run
   pub app : App
   pub stands : IsApplication bytes app
-  pub more : is_alone app ≡ false
-  pub code : refusal.code ≡ 60
-  pub line : refusal.line ≡ 1
+  pub not_alone : is_alone app ≡ false
+  pub named : refusal ≡ refusal_at NotSupported 1
 
 -- the refusal of the bytes by the command: they stand for no application, or for one that isn't run yet
 abbrev pub IsRefusedBy : Command → List ℕ → Refusal → Type 0
-IsRefusedBy command bytes refusal = IsRefused bytes refusal ⊎ IsNotRun command bytes refusal
+IsRefusedBy command bytes refusal = IsBundleRefused bytes refusal ⊎ IsNotRun command bytes refusal
 
 -- want of memory needs no cause
-abbrev pub IsFailOf : Command → List ℕ → Fail → Type 0
-IsFailOf command bytes (Refused refusal) = IsRefusedBy command bytes refusal
-IsFailOf command bytes OutOfMemory = ⊤
+abbrev pub IsCommandFail : Command → List ℕ → Fail → Type 0
+IsCommandFail command bytes (Refused refusal) = IsRefusedBy command bytes refusal
+IsCommandFail command bytes OutOfMemory = ⊤
 
 -- the text of a refusal, by its code and its line
 abbrev pub refusal_text : ℕ → ℕ → List ℕ

@@ -6,8 +6,8 @@ use Rattle.std.specs.Option.{unwrap_or}
 use Rattle.em_base.specs.declared.apps.App.{App}
 use Rattle.em_base.specs.declared.ids.TaskId.{TaskId}
 use Rattle.em_base.specs.declared.tables.TaskRow.{TaskRow}
-use Rattle.em_asm.specs.Code.{address_of}
-use Rattle.em_hart.specs.Hart.{Registers, Memory, bytes_of, with_register}
+use Rattle.em_base.specs.Images.{Labels, address_of}
+use Rattle.em_hart.specs.Hart.{Registers, Memory, bytes_of, own_base, shared_base, with_register}
 use Rattle.em_hart.specs.Instruction.{Outcome, Ran, Call, Fault, exec}
 use Rattle.em_run.specs.declared.trace.Line.{Line}
 use Rattle.em_run.specs.declared.trace.Line.TheVariants.{Rel, Out, Refused, Faulted, Exited}
@@ -26,15 +26,8 @@ pub record Plain : Type 0 where
 abbrev pub task : TaskId
 task = record { 0 = 0 }
 
--- where the windows stand
-abbrev pub own_base : ℕ
-own_base = 0x10000000
-
-abbrev pub shared_base : ℕ
-shared_base = 0x20000000
-
 -- the address at which the first of the tasks starts: that of the label of its entry
-abbrev pub entry_of : List (List ℕ × ℕ) → List TaskRow → ℕ
+abbrev pub entry_of : Labels → List TaskRow → ℕ
 entry_of labels [] = 0
 entry_of labels (row ∷ rows) = unwrap_or (address_of labels row.entry) 0
 
@@ -57,8 +50,8 @@ boot app = record {
 }
 
 -- the task is released with its first job, at a time and with a word, which goes to a0
-abbrev pub released : ℕ → ℕ → Plain → Plain
-released time word p =
+abbrev pub after_release : ℕ → ℕ → Plain → Plain
+after_release time word p =
     record p { registers = with_register p.registers 10 word; lines = p.lines ++ Rel task 1 time word ∷ [] }
 
 -- ---- one step
@@ -123,4 +116,4 @@ steps code (suc n) p = if goes_on p then steps code n (step code p) else p
 
 -- the trace of an application: the lines of the run of its first task, which is released once, at time 0 with the word 0
 abbrev pub trace_of : App → List Line
-trace_of app = (steps app.image.words most_steps (released 0 0 (boot app))).lines
+trace_of app = (steps app.image.words most_steps (after_release 0 0 (boot app))).lines

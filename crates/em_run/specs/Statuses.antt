@@ -4,11 +4,11 @@ use Rattle.em_run.specs.declared.status.Status.{Status}
 use Rattle.em_run.specs.declared.status.Status.TheVariants.{Done, Usage, ReadFault, WriteFault, TooLong, Malformed, NoMemory}
 
 -- the number of a status
-abbrev pub number_of : Status → ℕ
-number_of Done = 0
-number_of Usage = 1
-number_of ReadFault = 2
-number_of WriteFault = 3
-number_of TooLong = 4
-number_of Malformed = 5
-number_of NoMemory = 9
+abbrev pub exit_number : Status → ℕ
+exit_number Done = 0
+exit_number Usage = 1
+exit_number ReadFault = 2
+exit_number WriteFault = 3
+exit_number TooLong = 4
+exit_number Malformed = 5
+exit_number NoMemory = 9

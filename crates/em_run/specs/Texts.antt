@@ -8,9 +8,9 @@ use Rattle.em_run.specs.declared.status.Status.TheVariants.{Malformed, NoMemory}
 use Rattle.em_run.specs.Output.{refusal_text}
 
 -- the bytes of a text
-abbrev pub bytes_of : Text → List ℕ
-bytes_of (Fixed text) = text.now
-bytes_of (Made text) = string_bytes text
+abbrev pub text_bytes : Text → List ℕ
+text_bytes (Fixed text) = text.now
+text_bytes (Made text) = string_bytes text
 
 -- the answer names the refusal, unless memory ran out
 abbrev pub IsRefusalAnswer : Refusal → Status → List ℕ → Type 0

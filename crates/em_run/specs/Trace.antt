@@ -12,16 +12,16 @@ semaphore_text None = codes "-"
 semaphore_text (Some sem) = decimal sem.0
 
 -- the words of a line
-abbrev pub words_of : Line → List (List ℕ)
-words_of (Rel task job time word) = codes "rel" ∷ decimal task.0 ∷ decimal job ∷ decimal time ∷ decimal word ∷ []
-words_of (Out task port word value) = codes "out" ∷ decimal task.0 ∷ decimal port.0 ∷ decimal word ∷ decimal value ∷ []
-words_of (Refused task call code) = codes "err" ∷ decimal task.0 ∷ decimal call ∷ signed_decimal code ∷ []
-words_of (Faulted task cause pc sem) = codes "fault" ∷ decimal task.0 ∷ decimal cause ∷ decimal pc ∷ semaphore_text sem ∷ []
-words_of (Exited task) = codes "exit" ∷ decimal task.0 ∷ []
+abbrev pub line_words : Line → List (List ℕ)
+line_words (Rel task job time word) = codes "rel" ∷ decimal task.0 ∷ decimal job ∷ decimal time ∷ decimal word ∷ []
+line_words (Out task port word value) = codes "out" ∷ decimal task.0 ∷ decimal port.0 ∷ decimal word ∷ decimal value ∷ []
+line_words (Refused task call code) = codes "err" ∷ decimal task.0 ∷ decimal call ∷ signed_decimal code ∷ []
+line_words (Faulted task cause pc sem) = codes "fault" ∷ decimal task.0 ∷ decimal cause ∷ decimal pc ∷ semaphore_text sem ∷ []
+line_words (Exited task) = codes "exit" ∷ decimal task.0 ∷ []
 
 -- a line: its words with one space between them, and a line feed
 abbrev pub line_text : Line → List ℕ
-line_text line = join_with_byte 32 (words_of line) ++ codes "\n"
+line_text line = join_with_byte 32 (line_words line) ++ codes "\n"
 
 -- the lines, one after the other
 abbrev pub lines_text : List Line → List ℕ

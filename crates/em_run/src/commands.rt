@@ -39,9 +39,12 @@ fn command_line<'a>(alloc: Global) -> Result<clap::Command<'a>, AllocError>
 
 /// What the words give to the arguments of the command line, where it takes them.
 fn matches<'a>(alloc: Global, words: &'a [String]) -> Result<Option<ArgMatches<'a>>, NoMemory>
-    ensures taken { IfOk result (λ found. IfSome found (λ m. fault_of spec.command_line (map string_bytes words.now) ≡ [])) }
-    ensures rows { IfOk result (λ found. IfSome found (λ m. rows_of (found_of m) ≡ matches_of spec.command_line (map string_bytes words.now))) }
-    ensures refused { IfOk result (λ found. IfNone found (fault_of spec.command_line (map string_bytes words.now) ≢ [])) }
+    ensures taken { let given = map string_bytes words.now in
+        IfOk result (λ found. IfSome found (λ m. fault_of spec.command_line given ≡ [])) }
+    ensures rows { let given = map string_bytes words.now in
+        IfOk result (λ found. IfSome found (λ m. rows_of (found_of m) ≡ matches_of spec.command_line given)) }
+    ensures refused { let given = map string_bytes words.now in
+        IfOk result (λ found. IfNone found (fault_of spec.command_line given ≢ [])) }
 {
     match command_line(alloc)?.try_get_matches_from(words) {
         Ok(found) => Ok(Some(found)),
@@ -57,13 +60,14 @@ fn matches<'a>(alloc: Global, words: &'a [String]) -> Result<Option<ArgMatches<'
 
 /// The first value of an argument.
 fn value<'a>(found: &ArgMatches<'a>, id: &str) -> Option<&'a str>
-    ensures { option_map (λ text. text.now) result ≡ first_of id.now (rows_of (found_of found.now)) }
+    ensures { option_map (λ text. text.now) result
+        ≡ first_of id.now (rows_of (found_of found.now)) }
 {
     found.get_str(id)
 }
 
 /// The command of a name.
-fn named(name: &str) -> Option<Command>
+fn command_named(name: &str) -> Option<Command>
     ensures some { IfSome result (λ command. name.now ≡ command_text command) }
     ensures none { IfNone result ((command : Command) → name.now ≢ command_text command) }
 {
@@ -87,7 +91,7 @@ pub fn command_of(alloc: Global, words: &[String]) -> Result<Option<Command>, No
         return Ok(None);
     }
     match value(&found, "COMMAND") {
-        Some(name) => Ok(named(name)),
+        Some(name) => Ok(command_named(name)),
         None => Ok(None),
     }
 }

@@ -1,15 +1,18 @@
-//! The top call: the words, the source and the sink of the program, and all that it does between them.
+//! The program without its system: the machine of one task and its trace, and the top call that reads the words and the
+//! source, and writes what is due.
 #![tactic(auto)]
 
-pub mod answer;
-pub mod commands;
-pub mod laws;
-pub mod machine;
-pub mod status;
-pub mod top;
-pub mod trace;
+mod answer;
+mod commands;
+mod laws;
+mod machine;
+mod output;
+mod status;
+mod top;
+mod trace;
 
-pub use laws::lists_again;
-pub use status::Status;
+pub use commands::Command;
+pub use laws::{lists_again, loads_number, one_answer};
+pub use status::{OUT_OF_MEMORY, Status};
 pub use top::emeralds;
 pub use trace::{Line, print_trace};

@@ -1,15 +1,15 @@
 //! The machine of one task: its registers and windows, the ports, and the trace of what it does.
 ghost use Rattle.std.specs.Prelude.{◌≡◌, ◌<◌, ◌≤◌, ◌++◌, ◌∷◌, [], List, length, IfOk, OnOk, OnErr};
+ghost use Rattle.em_hart.specs.Hart.{own_base, shared_base};
 ghost use Rattle.em_hart.specs.Instruction.{Call, Fault};
-ghost use Rattle.em_asm.specs.Code.{address_of as label_address};
-ghost use Rattle.em_bundle.specs.Valid.{IsApp};
-ghost use Rattle.em_run.specs.Calls.{Refuses, Exits, call_number, out_outcome, answered};
+ghost use Rattle.em_base.specs.Apps.{IsApp};
+ghost use Rattle.em_run.specs.Calls.{Refuses, Exits, call_number, out_outcome, after_answer};
 ghost use Rattle.em_run.specs.Plain as spec;
-ghost use Rattle.em_run.specs.Plain.{boot, released, step, goes_on, trace_of, after_call, after_instruction};
+ghost use Rattle.em_run.specs.Plain.{boot, after_release, step, goes_on, trace_of, after_call, after_instruction};
 
 use crate::trace::Line;
-use em_base::{App, Image, Items, NoMemory, PortId, TaskId};
-use em_hart::{Regs, Stepped, Window};
+use em_base::{App, Items, NoMemory, PortId, TaskId};
+use em_hart::{OWN_BASE, Regs, SHARED_BASE, Stepped, Window};
 use std::alloc::Global;
 
 /// The most steps of a run.
@@ -17,12 +17,6 @@ const MOST_STEPS: u32 = 20_000_000;
 
 /// The most lines of a trace.
 const MOST_LINES: usize = 1_000_000;
-
-/// Where the task's own window stands.
-const OWN_BASE: u32 = 0x1000_0000;
-
-/// Where the shared window stands.
-const SHARED_BASE: u32 = 0x2000_0000;
 
 /// The one task.
 const TASK: TaskId = TaskId(0);
@@ -43,20 +37,8 @@ struct Machine {
     /// What each port shows.
     ports: [u32; 8],
     lines: Items<Line>,
-    ghost own_stands: { own.base ≡ 0x10000000 },
-    ghost shared_stands: { shared.base ≡ 0x20000000 },
-}
-
-/// The address of the label of a name.
-fn address_of(image: &Image, name: &str) -> Option<u32>
-    ensures { result ≡ label_address image.now.labels name.now }
-{
-    for label in image.labels.as_slice() {
-        if name == label.0.as_str() {
-            return Some(label.1);
-        }
-    }
-    None
+    ghost own_stands: { own.base ≡ own_base },
+    ghost shared_stands: { shared.base ≡ shared_base },
 }
 
 /// The address at which the application's first task starts.
@@ -64,7 +46,7 @@ fn entry_of(app: &App) -> u32
     ensures { result ≡ spec.entry_of app.now.image.labels app.now.table.tasks }
 {
     match app.table.tasks.as_slice().first() {
-        Some(row) => address_of(&app.image, row.entry.as_str()).unwrap_or(0),
+        Some(row) => app.image.address_of(row.entry.as_str()).unwrap_or(0),
         None => 0,
     }
 }
@@ -111,7 +93,7 @@ impl Machine {
 
     /// Gives the task its first job.
     fn release(&mut self, alloc: Global, time: u64, word: u32) -> Result<(), NoMemory>
-        ensures { OnOk result (state_of self.new ≡ released time word (state_of self.old)) }
+        ensures { OnOk result (state_of self.new ≡ after_release time word (state_of self.old)) }
     {
         self.registers.set(10, word);
         let line = Line::Rel {
@@ -158,7 +140,8 @@ impl Machine {
     /// The call out, which has this number: the port a0 takes the word a1.
     fn out(&mut self, alloc: Global, number: u32) -> Result<(), NoMemory>
         requires { number ≡ call_number self.old.registers }
-        ensures { OnOk result (state_of self.new ≡ after_call (out_outcome self.old.registers) (state_of self.old)) }
+        ensures { let outcome = out_outcome self.old.registers in
+            OnOk result (state_of self.new ≡ after_call outcome (state_of self.old)) }
     {
         let port = self.registers.get(10);
         let word = self.registers.get(11);
@@ -204,7 +187,8 @@ impl Machine {
 
     /// Puts an answer into a0, and moves on to the instruction after the call.
     fn answer(&mut self, answer: u32)
-        ensures { self.new ≡ record self.old { registers = answered self.old.registers answer } }
+        ensures { let registers = after_answer self.old.registers answer in
+            self.new ≡ record self.old { registers = registers } }
     {
         self.registers.set(10, answer);
         self.registers.jump(self.registers.pc().wrapping_add(4));
@@ -213,7 +197,8 @@ impl Machine {
     /// Stops the task, for an instruction that faulted at an address.
     fn fault(&mut self, alloc: Global, cause: u8, pc: u32) -> Result<(), NoMemory>
         requires { pc ≡ self.old.registers.pc }
-        ensures { OnOk result (state_of self.new ≡ after_instruction (Fault cause) (state_of self.old)) }
+        ensures { OnOk result
+            (state_of self.new ≡ after_instruction (Fault cause) (state_of self.old)) }
     {
         self.stopped = true;
         self.lines.push(

@@ -1,6 +1,9 @@
 //! How a call of the program ends.
 ghost use Rattle.std.specs.Prelude.{◌≡◌};
-ghost use Rattle.em_run.specs.Statuses.{number_of};
+ghost use Rattle.em_run.specs.Statuses.{exit_number};
+
+/// What is written where memory could not be had.
+pub const OUT_OF_MEMORY: &str = "error memory\n";
 
 /// How a call of the program ends. Each but [`Status::WriteFault`] has its text, which was then written whole.
 #[derive(Clone, Copy, Debug, PartialEq, Eq)]
@@ -24,7 +27,7 @@ pub enum Status {
 impl Status {
     /// The number with which the program ends.
     pub fn number(self) -> u8
-        ensures { result ≡ number_of self }
+        ensures { result ≡ exit_number self }
     {
         match self {
             Status::Done => 0,

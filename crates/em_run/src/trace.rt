@@ -1,60 +1,44 @@
 //! The lines of a trace and their printed form.
 ghost use Rattle.std.specs.Prelude.{◌≡◌, ◌++◌, IfOk, OnOk, string_bytes};
 ghost use Rattle.std.specs.List.{join_with_byte};
-ghost use Rattle.em_run.specs.Trace.{words_of, line_text, lines_text};
+ghost use Rattle.em_run.specs.Trace.{line_words, line_text, lines_text};
 
 use em_base::{NoMemory, PortId, SemId, TaskId};
 use std::alloc::Global;
 use std::fmt::Write;
 
-/// A line of the trace: one thing that happened in a run. Times are in cycles.
+/// A line of the trace: one thing that happened to a task in a run. Times are in cycles.
 #[derive(Clone, Copy, Debug, PartialEq, Eq)]
 pub enum Line {
-    /// A task got a job.
+    /// A task was released: it got a job, counted from 1 for each task, that was due at a time and comes with a word.
     Rel {
-        /// The task.
         task: TaskId,
-        /// The job's number, counted from 1 for each task.
         job: u64,
-        /// When the job was due to come, in cycles.
         time: u64,
-        /// The word that comes with it.
         word: u32,
     },
-    /// A task put a word to a port.
+    /// A task put a word to a port, which shows the value afterwards.
     Out {
-        /// The task.
         task: TaskId,
-        /// The port.
         port: PortId,
-        /// The word.
         word: u32,
-        /// What the port shows afterwards.
         value: u32,
     },
-    /// A kernel call was refused.
+    /// A kernel call of this number was refused with a code from -10 to -1.
     Refused {
-        /// The task.
         task: TaskId,
-        /// The call's number.
         call: u32,
-        /// The code of the refusal, from -10 to -1.
         code: i8,
     },
-    /// A task faulted and is stopped.
+    /// A task is stopped by a fault, of a cause from 1 to 6, at the instruction at `pc`; it freed the semaphore.
     Faulted {
-        /// The task.
         task: TaskId,
-        /// The cause, from 1 to 6.
         cause: u8,
-        /// The address of the instruction that faulted.
         pc: u32,
-        /// The semaphore that was freed by it.
         sem: Option<SemId>,
     },
     /// A task ended by its own call.
     Exited {
-        /// The task.
         task: TaskId,
     },
 }
@@ -69,7 +53,7 @@ pub fn print_trace(alloc: Global, lines: &[Line]) -> Result<String, NoMemory>
 }
 
 /// Puts the text of the lines at the end. Its only refusal is `NoMemory`, and then some of it may stand there.
-pub fn put_trace(text: &mut String, lines: &[Line]) -> Result<(), NoMemory>
+pub(crate) fn put_trace(text: &mut String, lines: &[Line]) -> Result<(), NoMemory>
     ensures { OnOk result (string_bytes text.new ≡ string_bytes text.old ++ lines_text lines.now) }
 {
     for line in lines {
@@ -89,7 +73,8 @@ fn put_line(text: &mut String, line: &Line) -> Result<(), NoMemory>
 
 /// Puts the words of a line at the end.
 fn put_words(text: &mut String, line: &Line) -> Result<(), NoMemory>
-    ensures { OnOk result (string_bytes text.new ≡ string_bytes text.old ++ join_with_byte 32 (words_of line.now)) }
+    ensures { let words = join_with_byte 32 (line_words line.now) in
+        OnOk result (string_bytes text.new ≡ string_bytes text.old ++ words) }
 {
     match *line {
         Line::Rel {

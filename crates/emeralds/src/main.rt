@@ -1,8 +1,10 @@
 //! The program: its words, standard input and standard output are handed to the top call, whose status it ends with.
 #![tactic(auto)]
 
+ghost use Rattle.std.specs.Prelude.{◌≡◌, drop};
+
 use em_io::{StdSink, StdSource, write_all};
-use em_run::{Status, emeralds};
+use em_run::{OUT_OF_MEMORY, Status, emeralds};
 use std::alloc::Global;
 use std::io::{self, ErrorKind};
 use std::process::ExitCode;
@@ -13,9 +15,9 @@ fn main(rt: HostRuntime) -> ExitCode {
     let status = match words(&rt) {
         Ok(words) => {
             let mut src = StdSource::new(rt.reader());
-            emeralds(rt.alloc(), words.as_slice(), &mut src, &mut out)
+            emeralds(rt.alloc(), after_name(words.as_slice()), &mut src, &mut out)
         }
-        Err(_) => match write_all(&mut out, b"error memory\n") {
+        Err(_) => match write_all(&mut out, OUT_OF_MEMORY.as_bytes()) {
             Ok(()) => Status::NoMemory,
             Err(_) => Status::WriteFault,
         },
@@ -23,21 +25,19 @@ fn main(rt: HostRuntime) -> ExitCode {
     ExitCode::from(status.number())
 }
 
-/// The words after the program's name. Words that the system can't give as text are as good as none, which the top call
+/// The words of the program, with its name. Words that the system can't give as text are as good as none, which the top call
 /// refuses; the only error is want of memory.
 fn words<R: Env + Alloc<A = Global>>(rt: &R) -> io::Result<Vec<String>> {
-    let mut words = Vec::new(rt.alloc());
     match std::env::args(rt) {
-        Ok(all) => {
-            for word in all.skip(1) {
-                words.push(word)?;
-            }
-        }
-        Err(error) => {
-            if error.kind() == ErrorKind::OutOfMemory {
-                return Err(error);
-            }
-        }
+        Ok(words) => Ok(words.collect(rt.alloc())?),
+        Err(error) if error.kind() == ErrorKind::OutOfMemory => Err(error),
+        Err(_) => Ok(Vec::new(rt.alloc())),
     }
-    Ok(words)
+}
+
+/// The words after the first, which is the program's name.
+fn after_name(words: &[String]) -> &[String]
+    ensures { result.now ≡ drop 1 words.entry.now }
+{
+    words.get(1..).unwrap_or(&[])
 }

@@ -1,4 +1,4 @@
-use Rattle.em_run.proofs.Again.{assembles-again, no-headers}
+use Rattle.em_run.proofs.ListsAgain.{assembles-again, no-headers}
 use Rattle.em_run.proofs.laws.lists_again.Goals as goal
 
 pub returns-clause-part : goal.returns-clause-part

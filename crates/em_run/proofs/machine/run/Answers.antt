@@ -1,6 +1,6 @@
 use Rattle.std.proofs.Common.{◌≡◌, suc, ◌+◌, ◌-◌, true, false, sym, ap, ◌∙◌, arith}
 use Rattle.em_run.specs.Machine.{state_of}
-use Rattle.em_run.specs.Plain.{released, step, steps, goes_on, most_steps}
+use Rattle.em_run.specs.Plain.{after_release, step, steps, goes_on, most_steps}
 use Rattle.em_run.proofs.Stepping.{steps-none, steps-ended, steps-more}
 use Rattle.em_run.proofs.machine.run.Goals as goal
 
@@ -8,7 +8,7 @@ pub steps-init : goal.steps-init
 steps-init c = λ n e.
     let all : n ≡ most_steps = omega arith in
     ap (λ m. steps c.args.app.now.image.words m (state_of c.release.new.self)) all
-    ∙ ap (steps c.args.app.now.image.words most_steps) (c.in_ok-release.ensures ∙ ap (released 0 0) c.in_ok-machine.ensures)
+    ∙ ap (steps c.args.app.now.image.words most_steps) (c.in_ok-release.ensures ∙ ap (after_release 0 0) c.in_ok-machine.ensures)
 
 pub returns-then-not-goes_on : goal.returns-then-not-goes_on
 returns-then-not-goes_on c =

@@ -1,9 +1,9 @@
 use Rattle.std.proofs.Common.{◌≡◌, ◌*◌, List, [], length, false, ap, rules, ◌∙◌, replicate}
 use Rattle.std.specs.Prelude.{max}
 use Rattle.em_base.specs.declared.apps.App.{App}
-use Rattle.em_hart.specs.Hart.{Registers, Memory}
+use Rattle.em_hart.specs.Hart.{Registers, Memory, shared_base}
 use Rattle.em_run.specs.declared.trace.Line.{Line}
-use Rattle.em_run.specs.Plain.{Plain, boot, shared_base, window}
+use Rattle.em_run.specs.Plain.{Plain, boot, window}
 use Rattle.em_run.proofs.machine.Machine.new.Goals as goal
 
 -- the state before anything has happened, from its parts

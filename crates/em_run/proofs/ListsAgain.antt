@@ -1,8 +1,9 @@
 -- A listing assembled again gives the same words.
-use Rattle.std.proofs.Common.{◌≡◌, ℕ, zero, suc, ◌+◌, ◌*◌, ◌^◌, ◌<◌, ◌≤◌, Bool, false, nat_lt, List, [], ◌∷◌, ◌++◌, length, take, Some, None, Ok, refl, sym, ap, ap₂, subst, ◌∙◌, arith, cond, if◌then◌else◌}
+use Rattle.std.proofs.Common.{◌≡◌, ℕ, zero, suc, ◌+◌, ◌*◌, ◌^◌, ◌<◌, ◌≤◌, Bool, false, nat_lt, List, [], ◌∷◌, ◌++◌, length, take, Some, None, Ok, refl, sym, ap, ap₂, subst, ◌∙◌, arith, cond, if◌then◌else◌, true, get_or, Option, is_some, ◌||◌, not}
 use Rattle.std.proofs.lemmas.Bool.Decides.{nat_tests}
 use Rattle.std.proofs.lemmas.List.{length-take-le}
 use Rattle.std.proofs.lemmas.List.Sums.{sum_by-cons}
+use Rattle.std.proofs.lemmas.Option.{get_or_from_slice_get}
 use Rattle.std.specs.List.{All}
 use Rattle.std.specs.Option.{unwrap_or}
 use Rattle.std.specs.Prelude.{slice_index}
@@ -10,17 +11,19 @@ use Rattle.std.specs.Result.{result_ok, result_err}
 use Rattle.em_isa.specs.declared.instructions.Instr.TheVariants.{Branch as BranchBy, Jal as JalBy}
 use Rattle.em_isa.specs.Encoding.{word_of}
 use Rattle.em_base.specs.declared.images.Image.{Image}
-use Rattle.em_base.specs.Images.{most_words}
+use Rattle.em_base.specs.FirstFault.{AreClear, by_test}
+use Rattle.em_base.specs.Images.{Labels, most_words}
 use Rattle.em_asm_read.specs.declared.items.Item.{Item}
 use Rattle.em_asm_read.specs.declared.items.Item.TheVariants.{Nothing, One, Branch, Jal, Li, Wait, Word, Raw}
 use Rattle.em_asm_read.specs.declared.items.Line.{Line}
 use Rattle.em_asm_read.specs.declared.items.Target.TheVariants.{Label, Offset}
+use Rattle.em_asm.specs.declared.faults.Fault.{Fault}
 use Rattle.em_asm.specs.declared.faults.Fault.TheVariants.{LabelTwice, TooMuchCode, TooMuchShared}
-use Rattle.em_asm.specs.Code.{Labels, code_of, size_of}
-use Rattle.em_asm.specs.Image.{AreClear, IsImageOf, code_size, gather, is_known, label_at, labels_of, layout_fault, line_at, room_fault, shared_word, shared_words, target_fault, wait_at, waits_of}
+use Rattle.em_asm.specs.Code.{words_of_item, size_of}
+use Rattle.em_asm.specs.Image.{IsImageOf, code_size, gather, is_known, label_at, labels_of, layout_fault, room_fault, shared_word, shared_words, target_fault, wait_at, waits_of}
 use Rattle.em_show.specs.Back.{ReadsBack, one_word}
 use Rattle.em_show.specs.Listing.{AreTextsOf, IsTextOf}
-use Rattle.em_bundle.specs.Code.{AllSay, IsCodeOf}
+use Rattle.em_bundle.specs.Code.{AllSay, IsCodeOf, is_nothing, lines_in, number_in, speaks, statements_of}
 use Rattle.em_bundle.specs.Parts.{headers_in, is_header}
 
 -- ---- a line of one word
@@ -30,7 +33,7 @@ record GivesOne (item : Item) (word : ℕ) : Type 0 where
   size : size_of item ≡ 1
   shared : shared_word item ≡ []
   waits : (number at : ℕ) → wait_at number at item ≡ []
-  code : (labels : Labels) (at : ℕ) → code_of labels at item ≡ Ok (word ∷ [])
+  code : (labels : Labels) (at : ℕ) → words_of_item labels at item ≡ Ok (word ∷ [])
 
 same-word : (a b : ℕ) → Some a ≡ Some b → a ≡ b
 same-word a b e = cc
@@ -92,7 +95,7 @@ gather-none give none p at (line ∷ lines) words a =
     ap₂ (λ x y. x ++ y) (none p at line a.0 a.3) (gather-none give none (suc p) (at + 4 * size_of line.item) lines a.1 a.4)
 
 gather-words : (labels : Labels) (p at : ℕ) (lines : List Line) (words : List ℕ) → AreAlone lines words
-    → gather (λ place at line. unwrap_or (result_ok (code_of labels at line.item)) []) p at lines ≡ words
+    → gather (λ place at line. unwrap_or (result_ok (words_of_item labels at line.item)) []) p at lines ≡ words
 unfolding gather
 gather-words labels p at [] words a = sym a
 gather-words labels p at (line ∷ lines) words a =
@@ -101,8 +104,8 @@ gather-words labels p at (line ∷ lines) words a =
 no-labels : (lines : List Line) (words : List ℕ) → AreAlone lines words → labels_of lines ≡ []
 no-labels = gather-none (λ place at line. label_at at line.label) (λ p at line word a. ap (label_at at) a.unlabelled) 0 0
 
-no-waits : (first : ℕ) (lines : List Line) (words : List ℕ) → AreAlone lines words → waits_of first lines ≡ []
-no-waits first = gather-none (λ place at line. wait_at (first + place) at line.item) (λ p at line word a. a.gives.waits (first + p) at) 0 0
+no-waits : (number : ℕ → ℕ) (lines : List Line) (words : List ℕ) → AreAlone lines words → waits_of number lines ≡ []
+no-waits number = gather-none (λ place at line. wait_at (number place) at line.item) (λ p at line word a. a.gives.waits (number p) at) 0 0
 
 no-shared : (lines : List Line) (words : List ℕ) → AreAlone lines words → shared_words lines ≡ []
 no-shared [] words a = refl
@@ -113,6 +116,17 @@ code-count [] words a = refl
 code-count (line ∷ lines) words a = omega (arith, sum_by-cons (λ (l : Line). size_of l.item) line lines, a.3.gives.size, code-count lines a.1 a.4)
 
 -- ---- the lines before a place, and the line there
+
+-- the line at a place, counted from 0
+abbrev line_at : List Line → ℕ → Line
+line_at lines place = get_or lines place (record { label = None; item = Nothing })
+
+-- lines are clear where the test finds nothing at each place
+clear-from : (test : List Line → Line → Option Fault) (lines : List Line) → ((i : ℕ) → i < length lines → test (take i lines) (line_at lines i) ≡ None)
+    → AreClear (by_test test) lines (length lines)
+clear-from test lines none = λ i h item fault here found.
+    let same : line_at lines i ≡ item = get_or_from_slice_get lines i item (record { label = None; item = Nothing }) here in
+    absurd (cc (none i h, found, ap (test (take i lines)) same))
 
 alone-before : (lines : List Line) (words : List ℕ) (i : ℕ) → AreAlone lines words → AreAlone (take i lines) (take i words)
 alone-before lines words zero a = refl
@@ -136,18 +150,19 @@ has-room labels code shared line l c s =
         → (if known then Some LabelTwice else if past then Some TooMuchCode else if over then Some TooMuchShared else None) ≡ None
     none known past over k p o = cc
 
-clear-layout : (lines : List Line) (words : List ℕ) → AreAlone lines words → length words ≤ most_words → AreClear layout_fault lines (length lines)
-clear-layout lines words a few i h =
+clear-layout : (lines : List Line) (words : List ℕ) → AreAlone lines words → length words ≤ most_words → AreClear (by_test layout_fault) lines (length lines)
+clear-layout lines words a few = clear-from layout_fault lines (λ i h.
     let here = (alone-at lines words i a h).1 in
     let before = alone-before lines words i a in
     let count : code_size (take i lines) ≡ i = code-count (take i lines) (take i words) before ∙ length-take-le i lines (omega arith) in
     let own : length (shared_word (line_at lines i).item) ≡ 0 = ap length here.gives.shared in
     let earlier : length (shared_words (take i lines)) ≡ 0 = ap length (no-shared (take i lines) (take i words) before) in
     has-room (labels_of (take i lines)) (code_size (take i lines)) (length (shared_words (take i lines))) (line_at lines i) here.unlabelled
-    (omega (arith, count, here.gives.size, same-length lines words a)) (omega (arith, own, earlier))
+    (omega (arith, count, here.gives.size, same-length lines words a)) (omega (arith, own, earlier)))
 
-clear-targets : (labels : Labels) (lines : List Line) (words : List ℕ) → AreAlone lines words → AreClear (target_fault labels) lines (length lines)
-clear-targets labels lines words a i h = ap result_err ((alone-at lines words i a h).1.gives.code labels (4 * code_size (take i lines)))
+clear-targets : (labels : Labels) (lines : List Line) (words : List ℕ) → AreAlone lines words → AreClear (by_test (target_fault labels)) lines (length lines)
+clear-targets labels lines words a =
+    clear-from (target_fault labels) lines (λ i h. ap result_err ((alone-at lines words i a h).1.gives.code labels (4 * code_size (take i lines))))
 
 -- ---- the image
 
@@ -155,15 +170,36 @@ clear-targets labels lines words a i h = ap result_err ((alone-at lines words i 
 abbrev code_alone : List ℕ → Image
 code_alone words = record { words = words; shared = []; waits = []; labels = [] }
 
-image-alone : (first : ℕ) (lines : List Line) (words : List ℕ) → AreAlone lines words → length words ≤ most_words → IsImageOf first lines (code_alone words)
-image-alone first lines words a few = record {
+image-alone : (number : ℕ → ℕ) (lines : List Line) (words : List ℕ) → AreAlone lines words → length words ≤ most_words → IsImageOf number lines (code_alone words)
+image-alone number lines words a few = record {
   laid_out = clear-layout lines words a few;
   aimed = clear-targets (labels_of lines) lines words a;
   words = sym (gather-words (labels_of lines) 0 0 lines words a);
   shared = sym (no-shared lines words a);
-  waits = sym (no-waits first lines words a);
+  waits = sym (no-waits number lines words a);
   labels = sym (no-labels lines words a);
 }
+
+-- ---- each such line says something
+
+says-word : (item : Item) → size_of item ≡ 1 → is_nothing item ≡ false
+says-word Nothing e = absurd (omega (arith, e))
+says-word (One instruction) e = refl
+says-word (Branch op rs1 rs2 target) e = refl
+says-word (Jal rd target) e = refl
+says-word (Li rd value) e = refl
+says-word (Wait hint) e = refl
+says-word (Word word) e = refl
+says-word (Raw word) e = refl
+
+says : (label : Option (List ℕ)) (item : Item) → label ≡ None → size_of item ≡ 1 → speaks (let l : Line = record { label = label; item = item } in l) ≡ true
+says label item l e = ap₂ (λ a b. is_some a || not b) l (says-word item e)
+
+all-say : (first : ℕ) (lines : List Line) (words : List ℕ) → AreAlone lines words → lines_in (statements_of first lines) ≡ lines
+all-say first [] words a = refl
+all-say first (line ∷ lines) words a =
+    ap (λ b. lines_in (cond b ((first, line) ∷ statements_of (first + 1) lines) (statements_of (first + 1) lines))) (says line.label line.item a.3.unlabelled a.3.gives.size)
+    ∙ ap (λ ls. line ∷ ls) (all-say (first + 1) lines a.1 a.4)
 
 -- ---- texts
 
@@ -174,17 +210,17 @@ pub record Laws : Type 0 where
 
 record Read (texts : List (List ℕ)) (words : List ℕ) : Type 0 where
   lines : List Line
-  said : AllSay texts lines
+  statements : AllSay texts lines
   alone : AreAlone lines words
 
 read-all : Laws → (words : List ℕ) (texts : List (List ℕ)) → All (λ word. word < 2 ^ 32) words → AreTextsOf words texts → Read texts words
-read-all laws [] texts small t = record { lines = []; said = subst (λ ts. AllSay ts []) (sym t) refl; alone = refl }
+read-all laws [] texts small t = record { lines = []; statements = subst (λ ts. AllSay ts []) (sym t) refl; alone = refl }
 read-all laws (word ∷ words) texts small t =
     let back = laws.word word t.0 (small 0 0 (omega arith)) t.3 in
     let rest = read-all laws words t.1 (λ k d h. small (suc k) d (omega arith)) t.4 in
     record {
       lines = back.line ∷ rest.lines;
-      said = subst (λ ts. AllSay ts (back.line ∷ rest.lines)) (sym t.2) (back.line, rest.lines, refl, back.read, rest.said);
+      statements = subst (λ ts. AllSay ts (back.line ∷ rest.lines)) (sym t.2) (back.line, rest.lines, refl, back.read, rest.statements);
       alone = (word, words, refl, record { unlabelled = back.unlabelled; gives = gives-one back.line.item word back.word_is }, rest.alone);
     }
 
@@ -202,6 +238,8 @@ assembles-again laws first words texts few small t =
     let read = read-all laws words texts small t in
     record {
       items = read.lines;
-      read = read.said;
-      assembled = image-alone first read.lines words read.alone few;
+      read = read.statements;
+      assembled =
+          subst (λ lines. IsImageOf (number_in (statements_of first read.lines)) lines (code_alone words)) (sym (all-say first read.lines words read.alone))
+          (image-alone (number_in (statements_of first read.lines)) read.lines words read.alone few);
     }
