@@ -1,12 +1,45 @@
-//! Sources and sinks that hand over pieces and fail, inputs that are too long, and what was written by then.
+//! Sources and sinks that hand over pieces and fail, inputs that are too long, and what was written so far.
+ghost use Rattle.std.specs.Prelude.{◌≤◌};
 
-use crate::calls::{ONE_SHOT, ROOM, called, source};
-use em_io::MemSink;
-use em_run::Status;
+use em_io::{MemSink, MemSource};
+use em_run::{Status, emeralds};
+use std::alloc::{AllocError, Global};
 use std::test::Fail;
+
+/// A bundle of one task that puts a word to a port and exits.
+const ONE_SHOT: &str =
+    "%table\nhorizon = 1000\n[[task]]\nname = \"a\"\nentry = \"a\"\nkind = \"timer\"\nperiod = 1000\ndeadline = 1000\ncost = 900\n%code\na: li a7, 4\nli a0, 0\nli a1, 7\necall\nli a7, 8\necall\n%script\n";
 
 /// What the run of the bundle writes.
 const OUTPUT: &[u8] = b"%trace\nrel 0 1 0 0\nout 0 0 7 7\nexit 0\n";
+
+/// More than any test writes.
+const ROOM: usize = 4096;
+
+/// The status of a call with these words, which stand between spaces.
+fn called(
+    alloc: Global,
+    words: &str,
+    src: &mut MemSource,
+    out: &mut MemSink,
+) -> Result<Status, AllocError> {
+    let mut list = Vec::new(alloc);
+    for word in words.split_whitespace() {
+        list.push(String::from_str(alloc, word)?)?;
+    }
+    Ok(emeralds(alloc, list.as_slice(), src, out))
+}
+
+/// A source of the bytes that hands over at most `piece` at a time and fails at the calls numbered in `fails`.
+fn source(alloc: Global, bytes: &[u8], fails: &[u64], piece: usize) -> Result<MemSource, AllocError>
+    requires { 1 ≤ piece }
+{
+    Ok(MemSource::new(
+        Vec::from_slice(alloc, bytes)?,
+        Vec::from_slice(alloc, fails)?,
+        piece,
+    ))
+}
 
 #[test]
 fn pieces_of_any_size(rt: HostRuntime) -> Result<(), Fail> {

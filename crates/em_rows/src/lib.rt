@@ -1,15 +1,8 @@
-//! Worked rows: whole calls of the program with what they must write. Tests alone, run through the top call.
+//! Calls of the program that files of cases can't tell of: sources and sinks that hand over pieces and fail, inputs as long as
+//! they may be and longer, and lines of a trace that no run writes yet. Tests alone.
 #![tactic(auto)]
 
 #[cfg(test)]
-mod calls;
-#[cfg(test)]
-mod code;
-#[cfg(test)]
 mod faults;
 #[cfg(test)]
-mod listings;
-#[cfg(test)]
-mod rows;
-#[cfg(test)]
-mod windows;
+mod printing;
