@@ -4,4 +4,6 @@ pub mod FirstFault
 pub mod Images
 pub mod Tables
 pub mod Events
+pub mod Keys
+pub mod Selection
 pub mod Apps
