@@ -1,5 +1,4 @@
 pub mod Statuses
-pub mod Trace
 pub mod Calls
 pub mod Plain
 pub mod Machine

@@ -15,7 +15,7 @@ use Rattle.em_run.specs.declared.commands.Command.TheVariants.{Run, List as List
 use Rattle.em_run.specs.declared.status.Status.{Status}
 use Rattle.em_run.specs.declared.status.Status.TheVariants.{Done, Usage, ReadFault, WriteFault, TooLong, Malformed, NoMemory}
 use Rattle.em_run.specs.Commands.{IsCommand, IsNoCommand}
-use Rattle.em_run.specs.Trace.{lines_text}
+use Rattle.em_trace.specs.Printed.{trace_text}
 use Rattle.em_run.specs.Plain.{trace_of}
 use Rattle.em_run.specs.Alone.{is_alone}
 
@@ -54,7 +54,7 @@ IsCarriedOut ListCode app = ⊤
 
 -- the text of a run
 abbrev pub run_text : App → List ℕ
-run_text app = codes "%trace\n" ++ lines_text (trace_of app)
+run_text app = codes "%trace\n" ++ trace_text (trace_of app)
 
 -- the text is what the command writes of an application: the trace of its run, or the listing of its code
 abbrev pub IsOutput : Command → App → List ℕ → Type 0

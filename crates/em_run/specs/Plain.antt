@@ -9,8 +9,8 @@ use Rattle.em_base.specs.declared.tables.TaskRow.{TaskRow}
 use Rattle.em_base.specs.Images.{Labels, address_of}
 use Rattle.em_hart.specs.Hart.{Registers, Memory, bytes_of, own_base, shared_base, with_register}
 use Rattle.em_hart.specs.Instruction.{Outcome, Ran, Call, Fault, exec}
-use Rattle.em_run.specs.declared.trace.Line.{Line}
-use Rattle.em_run.specs.declared.trace.Line.TheVariants.{Rel, Out, Refused, Faulted, Exited}
+use Rattle.em_trace.specs.declared.lines.Line.{Line}
+use Rattle.em_trace.specs.declared.lines.Line.TheVariants.{Rel, Out, Refused, Faulted, Exited}
 use Rattle.em_run.specs.Calls.{CallOutcome, Refuses, Puts, Exits, call_number, call_outcome, registers_after}
 
 -- a state: the task's registers and own window, whether it is stopped, the shared window, the values that the ports show,

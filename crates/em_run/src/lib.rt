@@ -1,4 +1,4 @@
-//! The program without its system: the machine of one task and its trace, and the top call that reads the words and the
+//! The program without its system: the machine of one task, and the top call that reads the words and the
 //! source, and writes what is due.
 #![tactic(auto)]
 
@@ -9,10 +9,8 @@ mod machine;
 mod output;
 mod status;
 mod top;
-mod trace;
 
 pub use commands::Command;
 pub use laws::{lists_again, loads_number, one_answer};
 pub use status::{OUT_OF_MEMORY, Status};
 pub use top::emeralds;
-pub use trace::{Line, print_trace};

@@ -7,9 +7,9 @@ ghost use Rattle.em_run.specs.Calls.{Refuses, Exits, call_number, out_outcome, a
 ghost use Rattle.em_run.specs.Plain as spec;
 ghost use Rattle.em_run.specs.Plain.{boot, after_release, step, goes_on, trace_of, after_call, after_instruction};
 
-use crate::trace::Line;
 use em_base::{App, Items, NoMemory, PortId, TaskId};
 use em_hart::{OWN_BASE, Regs, SHARED_BASE, Stepped, Window};
+use em_trace::Line;
 use std::alloc::Global;
 
 /// The most steps of a run.

@@ -9,10 +9,10 @@ ghost use Rattle.em_run.specs.Output.{IsCarriedOut, IsCommandFail, IsOutput, IsO
 
 use crate::commands::Command;
 use crate::machine::run;
-use crate::trace::put_trace;
 use em_base::{App, Fail, Kind, NoMemory};
 use em_bundle::{Fault, load};
 use em_show::listing;
+use em_trace::put_trace;
 use std::alloc::Global;
 
 /// What the command writes of the application that the bytes stand for. Refused as [`load`] refuses them; and by `run` as not

@@ -2,7 +2,7 @@ use Rattle.std.proofs.Common.{◌≡◌, ◌*◌, List, [], length, false, ap, r
 use Rattle.std.specs.Prelude.{max}
 use Rattle.em_base.specs.declared.apps.App.{App}
 use Rattle.em_hart.specs.Hart.{Registers, Memory, shared_base}
-use Rattle.em_run.specs.declared.trace.Line.{Line}
+use Rattle.em_trace.specs.declared.lines.Line.{Line}
 use Rattle.em_run.specs.Plain.{Plain, boot, window}
 use Rattle.em_run.proofs.machine.Machine.new.Goals as goal
 
