@@ -1,0 +1,54 @@
+-- What a kernel keeps, and the states that it stands for.
+use Rattle.std.specs.Prelude.{◌≡◌, ℕ, ◌+◌, ◌-◌, List, [], length, map, Option, Some}
+use Rattle.em_base.specs.declared.apps.App.{App}
+use Rattle.em_base.specs.declared.events.Timed.{Timed}
+use Rattle.em_base.specs.declared.ids.SemId.{SemId}
+use Rattle.em_base.specs.declared.ids.TaskId.{TaskId}
+use Rattle.em_hart.specs.Hart.{Memory}
+use Rattle.em_ports.specs.Ports.{Places}
+use Rattle.em_gate.specs.State.{Task, Counted}
+use Rattle.em_gate.specs.Selecting.{counted_selected}
+use Rattle.em_threads.specs.Threads.{Thread}
+
+-- what a kernel keeps: its application, the tasks, the owners, the shared window, the events left, the clock, the task that ran last, the
+-- number of lines, and the number of switches
+pub record Kept : Type 0 where
+  pub app : App
+  pub threads : List Thread
+  pub owners : List (Option TaskId)
+  pub shared : Memory
+  pub left : List Timed
+  pub clock : ℕ
+  pub current : Option TaskId
+  pub count : ℕ
+  pub switches : ℕ
+
+abbrev pub tasks_of : List Thread → List Task
+tasks_of threads = map (λ thread. thread.task) threads
+
+abbrev pub promises_of : List Thread → List (Option SemId)
+promises_of threads = map (λ thread. thread.promise) threads
+
+-- more steps than are left to a kernel
+abbrev pub kept_fuel : Kept → ℕ
+kept_fuel kept = kept.app.table.horizon - kept.clock + length kept.left
+
+-- at the boundary of two steps the selected task, if there is one, is the one that ran last
+abbrev pub IsCurrent : Option ℕ → Option TaskId → Type 0
+IsCurrent selected current = (t : ℕ) → selected ≡ Some t → current ≡ Some (record { 0 = t })
+
+-- a kernel that keeps this, with these ports, stands for a state: the tasks, the promises, the owners, the shared window, the ports, the
+-- events left, the clock and the task that ran last are its own, and it has as many lines. Without messages there are no values, and without
+-- messages and hints no step rests on the last `waitjob`s, the arrivals, the copies and the numbers begun
+pub record Stands (kept : Kept) (places : Places) (c : Counted) : Type 0 where
+  pub tasks : tasks_of kept.threads ≡ c.plain.tasks
+  pub promises : promises_of kept.threads ≡ c.promises
+  pub owners : kept.owners ≡ c.plain.owners
+  pub shared : kept.shared ≡ c.plain.shared
+  pub ports : places ≡ c.plain.ports
+  pub left : kept.left ≡ c.left
+  pub clock : kept.clock ≡ c.clock
+  pub current : kept.current ≡ c.current
+  pub lines : kept.count ≡ length c.plain.lines
+  pub values : c.plain.values ≡ []
+  pub running : IsCurrent (counted_selected kept.app.table.tasks c) c.current

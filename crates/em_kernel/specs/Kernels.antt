@@ -1,0 +1,40 @@
+-- What is always so of a kernel.
+use Rattle.std.specs.Prelude.{◌≡◌, ℕ, ◌+◌, ◌<◌, ◌≤◌, List, All, length}
+use Rattle.em_base.specs.declared.events.Timed.{Timed}
+use Rattle.em_base.specs.declared.jobs.Charges.{Charges}
+use Rattle.em_base.specs.Selection.{selected}
+use Rattle.em_gate.specs.Selecting.{scene_in}
+use Rattle.em_demand.specs.Charges.{charges_of}
+use Rattle.em_kernel.specs.declared.meter.Meter.{Meter}
+use Rattle.em_kernel.specs.Held.{Held}
+use Rattle.em_kernel.specs.Kept.{IsCurrent, promises_of, tasks_of}
+use Rattle.em_kernel.specs.Possible.{IsPossible}
+use Rattle.em_kernel.specs.Sound.{IsSound}
+use Rattle.em_kernel.specs.Standings.{number_of}
+
+-- charges that are small numbers
+pub record AreCheap (charges : Charges) : Type 0 where
+  pub call : charges.call ≤ 52
+  pub release : charges.release ≤ 62
+  pub switch : charges.switch ≤ 46
+  pub costly : 10 ≤ charges.switch
+  pub charged : 1 ≤ charges.call
+
+-- the charges are the table's; the events left can be delivered; the selected task is the one that the definition selects, and is the one
+-- that ran last; the tasks are sound, by the events and the cycles that have passed; and no count is near the last number there is
+pub record IsKernel (held : Held) (charges : Charges) (events : List Timed) (at : ℕ) (meter : Meter) : Type 0 where
+  pub charged : charges ≡ charges_of held.app.table
+  pub cheap : AreCheap charges
+  pub all : length held.threads ≡ length held.app.table.tasks
+  pub horizon : held.app.table.horizon ≤ 20000000
+  pub within : at ≤ length events
+  pub few : length events ≤ 300000
+  pub timely : All (λ event. event.time < held.app.table.horizon) events
+  pub possible : All (λ event. IsPossible (length held.app.table.tasks) event.event) events
+  pub selects : number_of meter.selected
+      ≡ selected (scene_in held.app.table.tasks (tasks_of held.threads) (promises_of held.threads) held.owners)
+  pub runs : IsCurrent (number_of meter.selected) meter.current
+  pub sound : All (IsSound (at + meter.clock)) (tasks_of held.threads)
+  pub early : meter.clock ≤ 20000200
+  pub short : meter.count ≤ 1000001
+  pub switched : meter.switches ≤ meter.clock

@@ -1,0 +1,30 @@
+-- What the kernel counts, and what it is after a step at a cost.
+use Rattle.std.specs.Prelude.{ℕ, ◌+◌, Bool, Option, None, Some, if◌then◌else◌}
+use Rattle.em_base.specs.declared.ids.TaskId.{TaskId}
+use Rattle.em_trace.specs.declared.lines.Line.{Line}
+use Rattle.em_kernel.specs.declared.meter.Meter.{Meter}
+use Rattle.em_kernel.specs.Standings.{number_of}
+use Rattle.em_kernel.specs.Step.{is_switch, current_after}
+
+-- a number, and one more where there is a line
+abbrev pub with_one : ℕ → Option Line → ℕ
+with_one count None = count
+with_one count (Some line) = count + 1
+
+-- a cost, with its switch where there is one
+abbrev pub with_switch : Bool → ℕ → ℕ → ℕ
+with_switch switched cost switch = if switched then cost + switch else cost
+
+-- after a step at a cost, once this task is selected
+abbrev pub metered : Meter → Option TaskId → Option Line → ℕ → ℕ → Meter
+metered meter selected line cost switch = record {
+  clock = meter.clock + with_switch (is_switch meter.current (number_of selected)) cost switch;
+  current = current_after meter.current (number_of selected);
+  selected = selected;
+  count = with_one meter.count line;
+  switches = if is_switch meter.current (number_of selected) then meter.switches + 1 else meter.switches;
+}
+
+-- before anything has happened
+abbrev pub metered_boot : Meter
+metered_boot = record { clock = 0; current = None; selected = None; count = 0; switches = 0 }
