@@ -1,7 +1,9 @@
 //! Sources and sinks that hand over pieces and fail, inputs that are too long, and what was written so far.
 ghost use Rattle.std.specs.Prelude.{◌≤◌};
 
+use em_base::NoMemory;
 use em_io::{MemSink, MemSource};
+use em_ports::{LatchPort, Port, Ports};
 use em_run::{Status, emeralds};
 use std::alloc::{AllocError, Global};
 use std::test::Fail;
@@ -11,23 +13,34 @@ const ONE_SHOT: &str =
     "%table\nhorizon = 1000\n[[task]]\nname = \"a\"\nentry = \"a\"\nkind = \"timer\"\nperiod = 1000\ndeadline = 1000\ncost = 900\n%code\na: li a7, 4\nli a0, 0\nli a1, 7\necall\nli a7, 8\necall\n%script\n";
 
 /// What the run of the bundle writes.
-const OUTPUT: &[u8] = b"%trace\nrel 0 1 0 0\nout 0 0 7 7\nexit 0\n";
+const OUTPUT: &[u8] =
+    b"%trace\nrel 0 1 0 0\nout 0 0 7 7\nexit 0\n%end\nquiet clock 87 switches 1\n";
 
 /// More than any test writes.
 const ROOM: usize = 4096;
 
-/// The status of a call with these words, which stand between spaces.
+/// The status of a call with these words, which stand between spaces, and with eight ports that latch and show 0.
 fn called(
     alloc: Global,
     words: &str,
     src: &mut MemSource,
     out: &mut MemSink,
-) -> Result<Status, AllocError> {
+) -> Result<Status, NoMemory> {
     let mut list = Vec::new(alloc);
     for word in words.split_whitespace() {
         list.push(String::from_str(alloc, word)?)?;
     }
-    Ok(emeralds(alloc, list.as_slice(), src, out))
+    let mut ports: Vec<Box<dyn Port>> = Vec::with_capacity(alloc, 8)?;
+    ports.push(Box::new(alloc, LatchPort::new())?)?;
+    ports.push(Box::new(alloc, LatchPort::new())?)?;
+    ports.push(Box::new(alloc, LatchPort::new())?)?;
+    ports.push(Box::new(alloc, LatchPort::new())?)?;
+    ports.push(Box::new(alloc, LatchPort::new())?)?;
+    ports.push(Box::new(alloc, LatchPort::new())?)?;
+    ports.push(Box::new(alloc, LatchPort::new())?)?;
+    ports.push(Box::new(alloc, LatchPort::new())?)?;
+    let mut ports = Ports::new(alloc, ports)?;
+    Ok(emeralds(alloc, list.as_slice(), src, out, &mut ports))
 }
 
 /// A source of the bytes that hands over at most `piece` at a time and fails at the calls numbered in `fails`.

@@ -3,4 +3,5 @@ pub mod OneAnswer
 pub mod Complete
 pub mod Stepping
 pub mod Loading
-pub mod PlainLoading
+pub mod TaskLoading
+pub mod Outputs

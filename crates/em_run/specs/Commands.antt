@@ -5,7 +5,7 @@ use Rattle.clap.specs.Words.{App as CommandLine, Rule, Text, first_of, fault_of,
 use Rattle.clap.specs.Simple.{on_top}
 use Rattle.clap.specs.declared.builder.action.ArgAction.TheVariants.{Set}
 use Rattle.em_run.specs.declared.commands.Command.{Command}
-use Rattle.em_run.specs.declared.commands.Command.TheVariants.{Run, List as ListCode}
+use Rattle.em_run.specs.declared.commands.Command.TheVariants.{Run, Trial, List as ListCode}
 
 -- ---- the program's command line
 
@@ -34,6 +34,7 @@ value_in words id = first_of id (matches_of command_line words)
 -- the text of each command
 abbrev pub command_text : Command → List ℕ
 command_text Run = codes "run"
+command_text Trial = codes "trial"
 command_text ListCode = codes "list"
 
 -- the command line takes the words, COMMAND is the text of the command, and no number is given

@@ -1,8 +1,5 @@
 pub mod Statuses
-pub mod Calls
-pub mod Plain
-pub mod Machine
 pub mod Commands
-pub mod Alone
+pub mod Runs
 pub mod Output
 pub mod Texts

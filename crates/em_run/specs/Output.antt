@@ -1,23 +1,22 @@
--- What the program answers and writes, by its words and by what it read: this project's own.
-use Rattle.std.specs.Prelude.{◌≡◌, ◌⊎◌, ⊤, ℕ, ◌+◌, ◌≤◌, true, false, List, ◌++◌, length, Option, codes}
+-- What the program answers and writes, and the ports that it leaves, by its words, by what it read and by the ports that are handed in: this
+-- project's own.
+use Rattle.std.specs.Prelude.{◌≡◌, ◌⊎◌, ℕ, ◌+◌, ◌≤◌, Bool, true, false, List, ◌++◌, length, Option, None, Some, codes}
 use Rattle.std.specs.Fmt.{decimal}
 use Rattle.em_base.specs.declared.apps.App.{App}
-use Rattle.em_base.specs.declared.refusals.Fail.{Fail}
-use Rattle.em_base.specs.declared.refusals.Fail.TheVariants.{Refused, NoMemory as OutOfMemory}
 use Rattle.em_base.specs.declared.refusals.Refusal.{Refusal}
 use Rattle.em_io.specs.Bytes.{input_limit, Rose, then_left, and_then, IsAtEnd, Took}
+use Rattle.em_ports.specs.Ports.{Places}
 use Rattle.em_show.specs.Listing.{IsListing}
-use Rattle.em_bundle.specs.declared.faults.Fault.TheVariants.{NotSupported}
 use Rattle.em_bundle.specs.Application.{IsApplication, IsBundleRefused}
-use Rattle.em_bundle.specs.Faults.{refusal_at}
+use Rattle.em_kernel.specs.declared.did.End.{End}
+use Rattle.em_kernel.specs.declared.did.End.TheVariants.{Horizon, Quiet, Lines, Lapped as LappedEnd}
+use Rattle.em_kernel.specs.Run.{run_steps}
 use Rattle.em_run.specs.declared.commands.Command.{Command}
-use Rattle.em_run.specs.declared.commands.Command.TheVariants.{Run, List as ListCode}
+use Rattle.em_run.specs.declared.commands.Command.TheVariants.{Run, Trial, List as ListCode}
 use Rattle.em_run.specs.declared.status.Status.{Status}
-use Rattle.em_run.specs.declared.status.Status.TheVariants.{Done, Usage, ReadFault, WriteFault, TooLong, Malformed, NoMemory}
+use Rattle.em_run.specs.declared.status.Status.TheVariants.{Done, Usage, ReadFault, WriteFault, TooLong, Malformed, Lapped, NoMemory}
 use Rattle.em_run.specs.Commands.{IsCommand, IsNoCommand}
-use Rattle.em_trace.specs.Printed.{trace_text}
-use Rattle.em_run.specs.Plain.{trace_of}
-use Rattle.em_run.specs.Alone.{is_alone}
+use Rattle.em_run.specs.Runs.{ArePartWay, cause_in, ports_after, run_text}
 
 -- a source before a call and after it: what it has left, where it tells that, and its count of faults
 pub record Reading : Type 0 where
@@ -47,99 +46,127 @@ Wrote before after bytes = after ≡ and_then before bytes
 
 -- ---- what is carried out
 
--- what the command is carried out on by now: `run` on the applications of one task by itself, `list` on all
-abbrev pub IsCarriedOut : Command → App → Type 0
-IsCarriedOut Run app = is_alone app ≡ true
-IsCarriedOut ListCode app = ⊤
+-- the status of a run, by how it ended
+abbrev pub status_by : End → Status
+status_by Horizon = Done
+status_by Quiet = Done
+status_by Lines = Done
+status_by (LappedEnd message noted begun) = Lapped
 
--- the text of a run
-abbrev pub run_text : App → List ℕ
-run_text app = codes "%trace\n" ++ trace_text (trace_of app)
+-- the status of a run, where its steps have an end
+abbrev pub status_of : Option End → Status
+status_of None = Done
+status_of (Some cause) = status_by cause
 
--- the text is what the command writes of an application: the trace of its run, or the listing of its code
-abbrev pub IsOutput : Command → App → List ℕ → Type 0
-IsOutput Run app text = text ≡ run_text app
-IsOutput ListCode app text = IsListing app.image.words text
+-- the output of a run: the status by how it ended, the parts of its trace and of its end, and the ports of its last state
+pub record IsRunOutput (app : App) (before : Places) (status : Status) (text : List ℕ) (after : Places) : Type 0 where
+  pub status_is : status ≡ status_of (cause_in (run_steps app before))
+  pub text_is : text ≡ run_text app before
+  pub ports_are : after ≡ ports_after app before
 
--- the bytes stand for an application on which the command is carried out, and the text is what it writes
-pub record IsOutputOf (command : Command) (bytes text : List ℕ) : Type 0 where
+-- the output of a listing: nothing is run
+pub record IsListOutput (app : App) (before : Places) (status : Status) (text : List ℕ) (after : Places) : Type 0 where
+  pub status_is : status ≡ Done
+  pub text_is : IsListing app.image.words text
+  pub ports_stay : after ≡ before
+
+-- the output of a command on an application, with the ports that are handed in: its status, its text, and the ports afterwards
+abbrev pub IsOutput : Command → App → Places → Status → List ℕ → Places → Type 0
+IsOutput Run app before status text after = IsRunOutput app before status text after
+IsOutput Trial app before status text after = IsRunOutput app before status text after
+IsOutput ListCode app before status text after = IsListOutput app before status text after
+
+-- the bytes stand for an application, and this is the output of the command on it
+pub record IsOutputOf (command : Command) (bytes : List ℕ) (before : Places) (status : Status) (text : List ℕ) (after : Places) : Type 0 where
   pub app : App
   pub stands : IsApplication bytes app
-  pub carried : IsCarriedOut command app
-  pub output : IsOutput command app text
+  pub output : IsOutput command app before status text after
+
+-- the commands that run an application
+abbrev pub is_run : Command → Bool
+is_run Run = true
+is_run Trial = true
+is_run ListCode = false
+
+-- the command runs the application that the bytes stand for, and the ports are those after some number of its steps
+pub record IsPartWay (command : Command) (bytes : List ℕ) (before after : Places) : Type 0 where
+  pub runs : is_run command ≡ true
+  pub app : App
+  pub stands : IsApplication bytes app
+  pub part : ArePartWay app before after
 
 -- ---- what is refused
-
--- the bytes stand for an application that `run` doesn't run yet
-pub record IsNotRun (command : Command) (bytes : List ℕ) (refusal : Refusal) : Type 0 where
-  pub run : command ≡ Run
-  pub app : App
-  pub stands : IsApplication bytes app
-  pub not_alone : is_alone app ≡ false
-  pub named : refusal ≡ refusal_at NotSupported 1
-
--- the refusal of the bytes by the command: they stand for no application, or for one that isn't run yet
-abbrev pub IsRefusedBy : Command → List ℕ → Refusal → Type 0
-IsRefusedBy command bytes refusal = IsBundleRefused bytes refusal ⊎ IsNotRun command bytes refusal
-
--- want of memory needs no cause
-abbrev pub IsCommandFail : Command → List ℕ → Fail → Type 0
-IsCommandFail command bytes (Refused refusal) = IsRefusedBy command bytes refusal
-IsCommandFail command bytes OutOfMemory = ⊤
 
 -- the text of a refusal, by its code and its line
 abbrev pub refusal_text : ℕ → ℕ → List ℕ
 refusal_text code line = codes "error " ++ decimal code ++ codes " line " ++ decimal line ++ codes "\n"
 
--- the bytes are refused by the command, and the text names the code and the line
-pub record IsRefusalText (command : Command) (bytes text : List ℕ) : Type 0 where
+-- the bytes are refused, and the text names the code and the line
+pub record IsRefusalText (bytes text : List ℕ) : Type 0 where
   pub refusal : Refusal
-  pub refused : IsRefusedBy command bytes refusal
+  pub refused : IsBundleRefused bytes refusal
   pub names : text ≡ refusal_text refusal.code refusal.line
 
 -- ---- what is due
 
--- what is due for a command and bytes that were read to their end
-abbrev pub IsAnswerTo : Command → List ℕ → Status → List ℕ → Type 0
-IsAnswerTo command bytes Done text = IsOutputOf command bytes text
-IsAnswerTo command bytes Malformed text = IsRefusalText command bytes text
-IsAnswerTo command bytes NoMemory text = text ≡ codes "error memory\n"
-IsAnswerTo command bytes Usage text = ⊥
-IsAnswerTo command bytes ReadFault text = ⊥
-IsAnswerTo command bytes WriteFault text = ⊥
-IsAnswerTo command bytes TooLong text = ⊥
+-- what is due for a command and bytes that were read to their end. Want of memory may come before a run, in it and after it.
+abbrev pub IsAnswerTo : Command → List ℕ → Places → Status → List ℕ → Places → Type 0
+IsAnswerTo command bytes before Done text after = IsOutputOf command bytes before Done text after
+IsAnswerTo command bytes before Lapped text after = IsOutputOf command bytes before Lapped text after
+IsAnswerTo command bytes before Malformed text after = IsRefusalText bytes text × (after ≡ before)
+IsAnswerTo command bytes before NoMemory text after =
+    (text ≡ codes "error memory\n") × ((after ≡ before) ⊎ IsPartWay command bytes before after)
+IsAnswerTo command bytes before Usage text after = ⊥
+IsAnswerTo command bytes before ReadFault text after = ⊥
+IsAnswerTo command bytes before WriteFault text after = ⊥
+IsAnswerTo command bytes before TooLong text after = ⊥
 
--- the bytes were all that was left, and the text is what is due for them with the status
-pub record IsAnswered (command : Command) (r : Reading) (status : Status) (text : List ℕ) : Type 0 where
+-- the bytes were all that was left, and this is what is due for them
+pub record IsAnswered (command : Command) (r : Reading) (before : Places) (status : Status) (text : List ℕ) (after : Places) : Type 0 where
   pub bytes : List ℕ
   pub read : ReadsAll r bytes
-  pub due : IsAnswerTo command bytes status text
+  pub due : IsAnswerTo command bytes before status text after
+
+-- the ports are as they were handed in, or those after some number of steps of a run of what was read
+abbrev pub AreLeftBy : Command → Reading → Places → Places → Type 0
+AreLeftBy command r before after =
+    (after ≡ before) ⊎ ((bytes : List ℕ) × ReadsAll r bytes × IsPartWay command bytes before after)
 
 -- what is due for a command: the source is looked at first, then the length, then what the bytes stand for. Want of memory
 -- needs no other cause.
-abbrev pub IsDueFor : Command → Reading → Status → List ℕ → Type 0
-IsDueFor command r Done text = IsAnswered command r Done text
-IsDueFor command r Usage text = ⊥
-IsDueFor command r ReadFault text = ReadsWithin r × Rose r.faults_before r.faults_after × (text ≡ codes "error read\n")
-IsDueFor command r WriteFault text = ⊥
-IsDueFor command r TooLong text =
-    Took (λ n. n ≡ input_limit + 1) r.left_before r.left_after × (text ≡ codes "error too long\n")
-IsDueFor command r Malformed text = IsAnswered command r Malformed text
-IsDueFor command r NoMemory text = ReadsWithin r × (text ≡ codes "error memory\n")
+abbrev pub IsDueFor : Command → Reading → Places → Status → List ℕ → Places → Type 0
+IsDueFor command r before Done text after = IsAnswered command r before Done text after
+IsDueFor command r before Lapped text after = IsAnswered command r before Lapped text after
+IsDueFor command r before Usage text after = ⊥
+IsDueFor command r before ReadFault text after =
+    ReadsWithin r × Rose r.faults_before r.faults_after × (text ≡ codes "error read\n") × (after ≡ before)
+IsDueFor command r before WriteFault text after = ⊥
+IsDueFor command r before TooLong text after =
+    Took (λ n. n ≡ input_limit + 1) r.left_before r.left_after × (text ≡ codes "error too long\n") × (after ≡ before)
+IsDueFor command r before Malformed text after = IsAnswered command r before Malformed text after
+IsDueFor command r before NoMemory text after = ReadsWithin r × (text ≡ codes "error memory\n") × AreLeftBy command r before after
 
 -- the words are a command, and this is due for it
-pub record IsDueForWords (words : List (List ℕ)) (r : Reading) (status : Status) (text : List ℕ) : Type 0 where
+pub record IsDueForWords (words : List (List ℕ)) (r : Reading) (before : Places) (status : Status) (text : List ℕ) (after : Places) : Type 0 where
   pub command : Command
   pub words_are : IsCommand words command
-  pub due : IsDueFor command r status text
+  pub due : IsDueFor command r before status text after
 
--- each status, its cause and the text that is due with it. The words are looked at first; where they are no command, nothing
--- is read. Want of memory may come with any words. A fault of writing has no text of its own.
-abbrev pub IsDue : List (List ℕ) → Reading → Status → List ℕ → Type 0
-IsDue words r Done text = IsDueForWords words r Done text
-IsDue words r Usage text = IsNoCommand words × (r.left_after ≡ r.left_before) × (text ≡ codes "error usage\n")
-IsDue words r ReadFault text = IsDueForWords words r ReadFault text
-IsDue words r WriteFault text = ⊥
-IsDue words r TooLong text = IsDueForWords words r TooLong text
-IsDue words r Malformed text = IsDueForWords words r Malformed text
-IsDue words r NoMemory text = ReadsWithin r × (text ≡ codes "error memory\n")
+-- the ports are as they were handed in, or those after some number of steps of a run that the words tell of what was read
+abbrev pub AreLeft : List (List ℕ) → Reading → Places → Places → Type 0
+AreLeft words r before after =
+    (after ≡ before)
+    ⊎ ((command : Command) × (bytes : List ℕ) × IsCommand words command × ReadsAll r bytes × IsPartWay command bytes before after)
+
+-- each status, its cause, the text that is due with it and the ports afterwards. The words are looked at first; where they are no command,
+-- nothing is read. Want of memory may come with any words. A fault of writing has no text of its own.
+abbrev pub IsDue : List (List ℕ) → Reading → Places → Status → List ℕ → Places → Type 0
+IsDue words r before Done text after = IsDueForWords words r before Done text after
+IsDue words r before Lapped text after = IsDueForWords words r before Lapped text after
+IsDue words r before Usage text after =
+    IsNoCommand words × (r.left_after ≡ r.left_before) × (text ≡ codes "error usage\n") × (after ≡ before)
+IsDue words r before ReadFault text after = IsDueForWords words r before ReadFault text after
+IsDue words r before WriteFault text after = ⊥
+IsDue words r before TooLong text after = IsDueForWords words r before TooLong text after
+IsDue words r before Malformed text after = IsDueForWords words r before Malformed text after
+IsDue words r before NoMemory text after = ReadsWithin r × (text ≡ codes "error memory\n") × AreLeft words r before after

@@ -1,15 +1,18 @@
-//! What is due: the status and the text, by the words and by what is read.
-ghost use Rattle.std.specs.Prelude.{◌≡◌, ◌≤◌, codes, length, map, string_bytes};
+//! What is due: the status and the text, by the words, by what is read and by the ports that are handed in.
+ghost use Rattle.std.specs.Prelude.{◌≡◌, ◌≤◌, [], codes, length, map, string_bytes};
+ghost use Rattle.em_base.specs.Apps.{IsApp};
 ghost use Rattle.em_io.specs.Bytes.{input_limit};
 ghost use Rattle.em_run.specs.Commands.{IsNoCommand};
 ghost use Rattle.em_run.specs.Output.{IsAnswerTo, IsDue, IsDueFor, reading};
-ghost use Rattle.em_run.specs.Texts.{IsRefusalAnswer, text_bytes};
+ghost use Rattle.em_run.specs.Texts.{IsAnswerFor, IsRefusalAnswer, text_bytes};
 
 use crate::commands::{Command, command_of};
 use crate::output::output_of;
 use crate::status::{OUT_OF_MEMORY, Status};
-use em_base::{Fail, NoMemory, Refusal};
+use em_base::{App, Fail, NoMemory, Refusal};
+use em_bundle::load;
 use em_io::{ReadError, Source, read_all};
+use em_ports::{Ports, Seen};
 use std::alloc::Global;
 
 /// A text that is written: one that is always the same, or one that was made.
@@ -74,30 +77,40 @@ fn out_of_memory() -> Answer
     Answer::fixed(Status::NoMemory, OUT_OF_MEMORY)
 }
 
-/// What is due for the words and for what is read of the source. Nothing is read where the words are no command.
-pub fn decide<S: Source>(alloc: Global, words: &[String], src: &mut S) -> Answer
+/// What is due for the words and for what is read of the source, with these ports handed in. Nothing is read where the words are
+/// no command.
+pub fn decide<S: Source>(alloc: Global, words: &[String], src: &mut S, ports: &mut Ports) -> Answer
     ensures due { let read =
         reading (S.left src.old) (S.left src.new) (S.faults src.old) (S.faults src.new) in
-        IsDue (map string_bytes words.now) read result.status (text_bytes result.text) }
+        let seen = ⟦<Ports as Seen>⟧.seen_as in
+        let Due = IsDue (map string_bytes words.now) read (seen ports.old) in
+        Due result.status (text_bytes result.text) (seen ports.new) }
     ensures unread { IsNoCommand (map string_bytes words.now) → src.new ≡ src.old }
     ensures grows { S.faults src.old ≤ S.faults src.new }
 {
     match command_of(alloc, words) {
-        Ok(Some(command)) => read_and_answer(alloc, command, src),
+        Ok(Some(command)) => read_and_answer(alloc, command, src, ports),
         Ok(None) => Answer::fixed(Status::Usage, "error usage\n"),
         Err(NoMemory) => out_of_memory(),
     }
 }
 
 /// What is due for a command and for what is read of the source.
-fn read_and_answer<S: Source>(alloc: Global, command: Command, src: &mut S) -> Answer
+fn read_and_answer<S: Source>(
+    alloc: Global,
+    command: Command,
+    src: &mut S,
+    ports: &mut Ports,
+) -> Answer
     ensures due { let read =
         reading (S.left src.old) (S.left src.new) (S.faults src.old) (S.faults src.new) in
-        IsDueFor command read result.status (text_bytes result.text) }
+        let seen = ⟦<Ports as Seen>⟧.seen_as in
+        let Due = IsDueFor command read (seen ports.old) in
+        Due result.status (text_bytes result.text) (seen ports.new) }
     ensures grows { S.faults src.old ≤ S.faults src.new }
 {
     match read_all(alloc, src) {
-        Ok(bytes) => answer_to(alloc, command, bytes.as_slice()),
+        Ok(bytes) => answer_to(alloc, command, bytes.as_slice(), ports),
         Err(ReadError::ReadFault) => Answer::fixed(Status::ReadFault, "error read\n"),
         Err(ReadError::TooLong) => Answer::fixed(Status::TooLong, "error too long\n"),
         Err(ReadError::NoMemory) => out_of_memory(),
@@ -105,14 +118,31 @@ fn read_and_answer<S: Source>(alloc: Global, command: Command, src: &mut S) -> A
 }
 
 /// What is due for a command and bytes that were read to their end.
-fn answer_to(alloc: Global, command: Command, bytes: &[u8]) -> Answer
+fn answer_to(alloc: Global, command: Command, bytes: &[u8], ports: &mut Ports) -> Answer
     requires { length bytes.now ≤ input_limit }
-    ensures { IsAnswerTo command bytes.now result.status (text_bytes result.text) }
+    ensures { let seen = ⟦<Ports as Seen>⟧.seen_as in
+        let Due = IsAnswerTo command bytes.now (seen ports.old) in
+        Due result.status (text_bytes result.text) (seen ports.new) }
 {
-    match output_of(alloc, command, bytes) {
-        Ok(text) => Answer::made(Status::Done, text),
+    match load(alloc, bytes, false) {
+        Ok(app) => app_answer(alloc, command, &app, ports),
         Err(Fail::Refused(refusal)) => refusal_answer(alloc, refusal),
         Err(Fail::NoMemory) => out_of_memory(),
+    }
+}
+
+/// What is due for a command and an application.
+fn app_answer(alloc: Global, command: Command, app: &App, ports: &mut Ports) -> Answer
+    requires app { IsApp app.now }
+    requires messages { app.now.table.messages ≡ [] }
+    requires hints { app.now.hints.hints ≡ [] }
+    ensures { let seen = ⟦<Ports as Seen>⟧.seen_as in
+        let Due = IsAnswerFor command app.now (seen ports.old) in
+        Due result.status (text_bytes result.text) (seen ports.new) }
+{
+    match output_of(alloc, command, app, ports) {
+        Ok(output) => Answer::made(output.status, output.text),
+        Err(NoMemory) => out_of_memory(),
     }
 }
 

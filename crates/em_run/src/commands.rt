@@ -12,8 +12,10 @@ use std::alloc::{AllocError, Global};
 /// What the program is told to do with a bundle.
 #[derive(Clone, Copy, Debug, PartialEq, Eq)]
 pub enum Command {
-    /// `run`: run its application, and write the trace.
+    /// `run`: run its application, and write the trace and the end.
     Run,
+    /// `trial`: the same.
+    Trial,
     /// `list`: write the listing of its code.
     List,
 }
@@ -73,12 +75,13 @@ fn command_named(name: &str) -> Option<Command>
 {
     match name {
         "run" => Some(Command::Run),
+        "trial" => Some(Command::Trial),
         "list" => Some(Command::List),
         _ => None,
     }
 }
 
-/// The command that the words are: COMMAND is `run` or `list`, and no `--number` is given, which is for commands that come
+/// The command that the words are: COMMAND is `run`, `trial` or `list`, and no `--number` is given, which is for commands that come
 /// later. Other words are none. `NoMemory` where memory to read the words could not be had.
 pub fn command_of(alloc: Global, words: &[String]) -> Result<Option<Command>, NoMemory>
     ensures some { IfOk result (λ found. IfSome found (IsCommand (map string_bytes words.now))) }

@@ -20,6 +20,8 @@ pub enum Status {
     TooLong,
     /// The input is refused, at a line that the text names.
     Malformed,
+    /// The command was carried out and its output written; the run ended where a reader was overtaken.
+    Lapped,
     /// Memory could not be had.
     NoMemory,
 }
@@ -36,6 +38,7 @@ impl Status {
             Status::WriteFault => 3,
             Status::TooLong => 4,
             Status::Malformed => 5,
+            Status::Lapped => 7,
             Status::NoMemory => 9,
         }
     }

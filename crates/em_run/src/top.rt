@@ -1,50 +1,59 @@
 //! The top call.
 ghost use Rattle.std.specs.Prelude.{◌≡◌, ◌≢◌, ◌⊎◌, ℕ, ◌+◌, ◌<◌, ◌≤◌, List, length, map, take};
-ghost use Rattle.std.specs.Prelude.{Some, codes, string_bytes};
+ghost use Rattle.std.specs.Prelude.{IsTrue, Some, codes, is_some, string_bytes};
+ghost use Rattle.std.specs.List.{list_all};
 ghost use Rattle.em_base.specs.declared.apps.App.{App};
 ghost use Rattle.em_base.specs.declared.refusals.Refusal.{Refusal};
 ghost use Rattle.em_io.specs.Bytes.{input_limit, Rose, Took};
-ghost use Rattle.em_bundle.specs.Application.{IsApplication};
+ghost use Rattle.em_bundle.specs.Application.{IsApplication, IsBundleRefused};
 ghost use Rattle.em_run.specs.declared.commands.Command.{Command};
 ghost use Rattle.em_run.specs.Commands.{IsCommand, IsNoCommand};
-ghost use Rattle.em_run.specs.Output.{IsCarriedOut, IsDue, IsOutput, IsOutputOf, IsRefusedBy};
+ghost use Rattle.em_run.specs.Output.{AreLeft, IsDue, IsOutput, IsOutputOf};
 ghost use Rattle.em_run.specs.Output.{ReadsAll, Wrote, reading, refusal_text};
 
 use crate::answer::decide;
 use crate::status::Status;
 use em_bundle::one_application;
 use em_io::{Sink, Source, write_all};
+use em_ports::{Ports, Seen};
 use std::alloc::Global;
 
-/// All that the program does. `words` are the words after its name: the command `run` or `list`, as the command line reads
-/// them. Both read the source to its end and take what they read for a bundle; `run` then runs the application and writes
-/// the trace, and `list` writes the listing of its code.
+/// All that the program does. `words` are the words after its name: the command `run`, `trial` or `list`, as the command line
+/// reads them. All read the source to its end and take what they read for a bundle; `run` and `trial` then run the application
+/// on the kernel, with the ports that are handed in, and write the trace and the end, and `list` writes the listing of its
+/// code. A port must be plugged in at each place.
 ///
 /// The words are looked at first, then the source, then the length of what was read, then what it stands for; the first that
-/// is wrong decides the status. Each status but `WriteFault` has one text, which is made first and then written whole;
-/// `WriteFault` takes the place of any status whose text could not be written.
+/// is wrong decides the status, and then nothing is run and the ports stay as they were. Each status but `WriteFault` has one
+/// text, which is made first and then written whole; `WriteFault` takes the place of any status whose text could not be
+/// written. After it and after `NoMemory` the ports are those after some number of steps of the run, which may be none.
 pub fn emeralds<S: Source, K: Sink>(
     alloc: Global,
     words: &[String],
     src: &mut S,
     out: &mut K,
+    ports: &mut Ports,
 ) -> Status
-    // Where nothing is wrong, the output of the command is written, unless memory runs out.
-    ensures complete { (command : Command) (bytes : List ℕ) (app : App)
+    requires plugged { IsTrue (list_all is_some (⟦<Ports as Seen>⟧.seen_as ports.old)) }
+
+    // Where nothing is wrong, the output of the command is written, and the ports are those of the output, unless memory runs
+    // out.
+    ensures complete { let seen = ⟦<Ports as Seen>⟧.seen_as in
+        (command : Command) (bytes : List ℕ) (app : App)
         → IsCommand (map string_bytes words.now) command
         → S.left src.old ≡ Some bytes → length bytes ≤ input_limit
-        → IsApplication bytes app → IsCarriedOut command app
+        → IsApplication bytes app
         → ¬ (Rose (S.faults src.old) (S.faults src.new))
         → ¬ (Rose (K.faults out.old) (K.faults out.new))
         → (result ≡ Status.NoMemory)
-        ⊎ ((result ≡ Status.Done) × ((text : List ℕ) × IsOutput command app text
-        × Wrote (K.written out.old) (K.written out.new) text)) }
+        ⊎ ((text : List ℕ) × IsOutput command app (seen ports.old) result text (seen ports.new)
+        × Wrote (K.written out.old) (K.written out.new) text) }
 
     // Where the bytes alone are wrong, their refusal is written, unless memory runs out.
     ensures refuses { (command : Command) (bytes : List ℕ) (refusal : Refusal)
         → IsCommand (map string_bytes words.now) command
         → S.left src.old ≡ Some bytes → length bytes ≤ input_limit
-        → IsRefusedBy command bytes refusal
+        → IsBundleRefused bytes refusal
         → ¬ (Rose (S.faults src.old) (S.faults src.new))
         → ¬ (Rose (K.faults out.old) (K.faults out.new))
         → let line = refusal_text refusal.code refusal.line in
@@ -64,42 +73,65 @@ pub fn emeralds<S: Source, K: Sink>(
         → (result ≡ Status.Usage) ⊎ ((result ≡ Status.WriteFault) ⊎ (result ≡ Status.NoMemory)) }
     ensures unread { IsNoCommand (map string_bytes words.now) → src.new ≡ src.old }
 
-    // Each status comes with its cause, and with the line or the output that was written.
+    // Each status comes with its cause, with the line or the output that was written, and with the ports that are left.
     ensures done { result ≡ Status.Done
         → let read = reading (S.left src.old) (S.left src.new) (S.faults src.old) (S.faults src.new) in
+        let seen = ⟦<Ports as Seen>⟧.seen_as in
         (command : Command) × (bytes : List ℕ) × (text : List ℕ)
         × IsCommand (map string_bytes words.now) command × ReadsAll read bytes
-        × IsOutputOf command bytes text × Wrote (K.written out.old) (K.written out.new) text }
-    ensures usage { result ≡ Status.Usage → IsNoCommand (map string_bytes words.now)
-        × (S.left src.new ≡ S.left src.old)
+        × IsOutputOf command bytes (seen ports.old) Status.Done text (seen ports.new)
+        × Wrote (K.written out.old) (K.written out.new) text }
+    ensures lapped { result ≡ Status.Lapped
+        → let read = reading (S.left src.old) (S.left src.new) (S.faults src.old) (S.faults src.new) in
+        let seen = ⟦<Ports as Seen>⟧.seen_as in
+        (command : Command) × (bytes : List ℕ) × (text : List ℕ)
+        × IsCommand (map string_bytes words.now) command × ReadsAll read bytes
+        × IsOutputOf command bytes (seen ports.old) Status.Lapped text (seen ports.new)
+        × Wrote (K.written out.old) (K.written out.new) text }
+    ensures usage { result ≡ Status.Usage → let seen = ⟦<Ports as Seen>⟧.seen_as in
+        IsNoCommand (map string_bytes words.now)
+        × (S.left src.new ≡ S.left src.old) × (seen ports.new ≡ seen ports.old)
         × Wrote (K.written out.old) (K.written out.new) (codes "error usage\n") }
-    ensures read_fault { result ≡ Status.ReadFault → Rose (S.faults src.old) (S.faults src.new)
+    ensures read_fault { result ≡ Status.ReadFault → let seen = ⟦<Ports as Seen>⟧.seen_as in
+        Rose (S.faults src.old) (S.faults src.new) × (seen ports.new ≡ seen ports.old)
         × Wrote (K.written out.old) (K.written out.new) (codes "error read\n") }
-    ensures too_long { result ≡ Status.TooLong
-        → Took (λ n. n ≡ input_limit + 1) (S.left src.old) (S.left src.new)
+    ensures too_long { result ≡ Status.TooLong → let seen = ⟦<Ports as Seen>⟧.seen_as in
+        Took (λ n. n ≡ input_limit + 1) (S.left src.old) (S.left src.new)
+        × (seen ports.new ≡ seen ports.old)
         × Wrote (K.written out.old) (K.written out.new) (codes "error too long\n") }
     ensures malformed { result ≡ Status.Malformed
         → let read = reading (S.left src.old) (S.left src.new) (S.faults src.old) (S.faults src.new) in
+        let seen = ⟦<Ports as Seen>⟧.seen_as in
         (command : Command) × (bytes : List ℕ) × (refusal : Refusal)
         × IsCommand (map string_bytes words.now) command × ReadsAll read bytes
-        × IsRefusedBy command bytes refusal
+        × IsBundleRefused bytes refusal × (seen ports.new ≡ seen ports.old)
         × Wrote (K.written out.old) (K.written out.new) (refusal_text refusal.code refusal.line) }
     ensures no_memory { result ≡ Status.NoMemory
         → Wrote (K.written out.old) (K.written out.new) (codes "error memory\n") }
 
-    // Where the sink failed, a first part of the text that was due was written, and the sink's count says that it failed.
+    // Where the sink failed, a first part of the text that was due was written, the ports are those that were due with it, and
+    // the sink's count says that it failed.
     ensures write_fault { result ≡ Status.WriteFault
         → let read = reading (S.left src.old) (S.left src.new) (S.faults src.old) (S.faults src.new) in
+        let seen = ⟦<Ports as Seen>⟧.seen_as in
         Rose (K.faults out.old) (K.faults out.new)
         × ((status : Status) × (text : List ℕ) × (n : ℕ)
-        × IsDue (map string_bytes words.now) read status text
+        × IsDue (map string_bytes words.now) read (seen ports.old) status text (seen ports.new)
         × Wrote (K.written out.old) (K.written out.new) (take n text)) }
 
-    // All statuses but that one, by one relation: what was written is the text that is due.
+    // All statuses but that one, by one relation: what was written is the text that is due, and the ports are those due.
     ensures answer { result ≢ Status.WriteFault
         → let read = reading (S.left src.old) (S.left src.new) (S.faults src.old) (S.faults src.new) in
-        (text : List ℕ) × IsDue (map string_bytes words.now) read result text
+        let seen = ⟦<Ports as Seen>⟧.seen_as in (text : List ℕ)
+        × IsDue (map string_bytes words.now) read (seen ports.old) result text (seen ports.new)
         × Wrote (K.written out.old) (K.written out.new) text }
+
+    // Whatever the status, the ports are as they were handed in, or those after some number of steps of the run of what was
+    // read.
+    ensures left { let reads = reading (S.left src.old) (S.left src.new) in
+        let read = reads (S.faults src.old) (S.faults src.new) in
+        let seen = ⟦<Ports as Seen>⟧.seen_as in
+        AreLeft (map string_bytes words.now) read (seen ports.old) (seen ports.new) }
 
     // No more is read than the limit where the length isn't what is wrong, and the counts of faults never fall.
     ensures within { result ≢ Status.TooLong → result ≢ Status.WriteFault
@@ -109,7 +141,7 @@ pub fn emeralds<S: Source, K: Sink>(
 {
     // Bytes stand for one application or have one refusal, on which `complete` and `refuses` rest.
     one_application();
-    let due = decide(alloc, words, src);
+    let due = decide(alloc, words, src, ports);
     match write_all(out, due.text.as_bytes()) {
         Ok(()) => due.status,
         Err(_) => Status::WriteFault,

@@ -1,4 +1,4 @@
-use Rattle.em_run.proofs.PlainLoading.{number-loads}
+use Rattle.em_run.proofs.TaskLoading.{number-loads}
 use Rattle.em_run.proofs.laws.loads_number.Goals as goal
 
 pub returns : goal.returns

@@ -1,0 +1,67 @@
+-- What is due, by what was found and by how it came out.
+use Rattle.std.proofs.Common.{◌≡◌, ◌⊎◌, ℕ, List, Option, None, Some, inl, inr, refl, sym, subst}
+use Rattle.em_base.specs.declared.apps.App.{App}
+use Rattle.em_ports.specs.Ports.{Places}
+use Rattle.em_base.specs.declared.refusals.Refusal.{Refusal}
+use Rattle.em_bundle.specs.Application.{IsApplication, IsBundleRefused}
+use Rattle.em_kernel.specs.declared.did.End.{End}
+use Rattle.em_kernel.specs.declared.did.End.TheVariants.{Horizon, Quiet, Lines, Lapped as LappedEnd}
+use Rattle.em_run.specs.declared.commands.Command.{Command}
+use Rattle.em_run.specs.declared.commands.Command.TheVariants.{Run, Trial, List as ListCode}
+use Rattle.em_run.specs.declared.status.Status.{Status}
+use Rattle.em_run.specs.declared.status.Status.TheVariants.{Done, Usage, ReadFault, WriteFault, TooLong, Malformed, Lapped, NoMemory}
+use Rattle.em_kernel.specs.Run.{run_steps}
+use Rattle.em_run.specs.Output.{IsAnswerTo, IsOutput, status_of}
+use Rattle.em_run.specs.Runs.{cause_in}
+use Rattle.em_run.specs.Texts.{IsAnswerFor, IsRefusalAnswer}
+
+-- a status of an output
+abbrev IsEnded : Status → Type 0
+IsEnded status = (status ≡ Done) ⊎ (status ≡ Lapped)
+
+ended_run : (end : Option End) → IsEnded (status_of end)
+ended_run None = inl refl
+ended_run (Some Horizon) = inl refl
+ended_run (Some Quiet) = inl refl
+ended_run (Some Lines) = inl refl
+ended_run (Some (LappedEnd message noted begun)) = inr refl
+
+ended : (command : Command) (app : App) (before : Places) (status : Status) (text : List ℕ) (after : Places)
+    → IsOutput command app before status text after → IsEnded status
+ended Run app before status text after out = subst IsEnded (sym out.status_is) (ended_run (cause_in (run_steps app before)))
+ended Trial app before status text after out = subst IsEnded (sym out.status_is) (ended_run (cause_in (run_steps app before)))
+ended ListCode app before status text after out = inl out.status_is
+
+-- an output is what is due for an application
+pub output_due : (command : Command) (app : App) (before : Places) (status : Status) (text : List ℕ) (after : Places)
+    → IsOutput command app before status text after → IsAnswerFor command app before status text after
+output_due command app before status text after out = elim (ended command app before status text after out) [
+  | inl e ↦ subst (λ s. IsAnswerFor command app before s text after) (sym e) (subst (λ s. IsOutput command app before s text after) e out)
+  | inr e ↦ subst (λ s. IsAnswerFor command app before s text after) (sym e) (subst (λ s. IsOutput command app before s text after) e out)
+]
+
+-- what is due for an application is due for the bytes that stand for it
+pub app_due : (command : Command) (bytes : List ℕ) (app : App) (before : Places) (status : Status) (text : List ℕ) (after : Places)
+    → IsApplication bytes app → IsAnswerFor command app before status text after → IsAnswerTo command bytes before status text after
+app_due command bytes app before Done text after stands h = record { app = app; stands = stands; output = h }
+app_due command bytes app before Lapped text after stands h = record { app = app; stands = stands; output = h }
+app_due command bytes app before NoMemory text after stands (written, inl stay) = (written, inl stay)
+app_due command bytes app before NoMemory text after stands (written, inr (runs, part)) =
+    (written, inr record { runs = runs; app = app; stands = stands; part = part })
+app_due command bytes app before Usage text after stands h = absurd h
+app_due command bytes app before ReadFault text after stands h = absurd h
+app_due command bytes app before WriteFault text after stands h = absurd h
+app_due command bytes app before TooLong text after stands h = absurd h
+app_due command bytes app before Malformed text after stands h = absurd h
+
+-- what is due for a refusal is due for the bytes that are refused so
+pub refusal_due : (command : Command) (bytes : List ℕ) (refusal : Refusal) (before : Places) (status : Status) (text : List ℕ)
+    → IsBundleRefused bytes refusal → IsRefusalAnswer refusal status text → IsAnswerTo command bytes before status text before
+refusal_due command bytes refusal before Malformed text refused h = (record { refusal = refusal; refused = refused; names = h }, refl)
+refusal_due command bytes refusal before NoMemory text refused h = (h, inl refl)
+refusal_due command bytes refusal before Done text refused h = absurd h
+refusal_due command bytes refusal before Lapped text refused h = absurd h
+refusal_due command bytes refusal before Usage text refused h = absurd h
+refusal_due command bytes refusal before ReadFault text refused h = absurd h
+refusal_due command bytes refusal before WriteFault text refused h = absurd h
+refusal_due command bytes refusal before TooLong text refused h = absurd h

@@ -1,0 +1,85 @@
+-- What a run of an application comes to, and the text that the program writes of it. The format is this project's own.
+use Rattle.std.specs.Prelude.{◌≡◌, ℕ, List, [], ◌∷◌, ◌++◌, count_by, Option, None, Some, codes}
+use Rattle.std.specs.List.{flat_map}
+use Rattle.std.specs.Fmt.{decimal}
+use Rattle.em_base.specs.declared.apps.App.{App}
+use Rattle.em_trace.specs.declared.lines.Line.{Line}
+use Rattle.em_trace.specs.Printed.{trace_text}
+use Rattle.em_ports.specs.Ports.{Places}
+use Rattle.em_gate.specs.Effects.{option_list}
+use Rattle.em_kernel.specs.declared.did.Did.{Did}
+use Rattle.em_kernel.specs.declared.did.End.{End}
+use Rattle.em_kernel.specs.declared.did.End.TheVariants.{Horizon, Quiet, Lines, Lapped}
+use Rattle.em_kernel.specs.declared.did.What.{What}
+use Rattle.em_kernel.specs.declared.did.What.TheVariants.{Delivered, Stepped, Idled, Ended}
+use Rattle.em_kernel.specs.Run.{counted_boot, run_end, run_steps, state_from}
+use Rattle.em_run.specs.declared.running.Run.{Run}
+
+-- ---- what the steps of a run come to
+
+-- the lines that the steps give to the trace
+abbrev pub lines_in : List Did → List Line
+lines_in steps = flat_map (λ did. option_list did.line) steps
+
+-- how many of the steps have a switch charge
+abbrev pub switches_in : List Did → ℕ
+switches_in steps = count_by (λ did. did.switched) steps
+
+-- the first of two, where it is there, or else the second
+abbrev pub or_cause : Option End → Option End → Option End
+or_cause None other = other
+or_cause (Some cause) other = Some cause
+
+-- how a step ended the run, where it did
+abbrev pub cause_of : What → Option End
+cause_of (Delivered event) = None
+cause_of (Stepped t kind) = None
+cause_of Idled = None
+cause_of (Ended cause) = Some cause
+
+-- how the steps ended the run, where they did
+abbrev pub cause_in : List Did → Option End
+cause_in [] = None
+cause_in (did ∷ rest) = or_cause (cause_of did.what) (cause_in rest)
+
+-- a run of an application with these ports: its lines, how it ended, its last clock and its number of switches
+pub record IsRunOf (app : App) (ports : Places) (run : Run) : Type 0 where
+  pub lines_are : run.lines ≡ lines_in (run_steps app ports)
+  pub ends : cause_in (run_steps app ports) ≡ Some run.end
+  pub clock_is : run.clock ≡ (run_end app ports).clock
+  pub switches_are : run.switches ≡ switches_in (run_steps app ports)
+
+-- the ports of the last state of a run
+abbrev pub ports_after : App → Places → Places
+ports_after app ports = (run_end app ports).plain.ports
+
+-- the ports after some number of steps of a run, which may be none
+abbrev pub ArePartWay : App → Places → Places → Type 0
+ArePartWay app before after = (n : ℕ) × (after ≡ (state_from app n (counted_boot app before)).plain.ports)
+
+-- ---- the text
+
+-- how a run ended, in words
+abbrev pub cause_text : End → List ℕ
+cause_text Horizon = codes "horizon"
+cause_text Quiet = codes "quiet"
+cause_text Lines = codes "lines"
+cause_text (Lapped message noted begun) =
+    codes "lapped " ++ decimal message.0 ++ codes " " ++ decimal noted ++ codes " " ++ decimal begun
+
+-- the line of the end, where there is one, with the last clock and the number of switches
+abbrev pub end_text : Option End → ℕ → ℕ → List ℕ
+end_text None clock switches = []
+end_text (Some cause) clock switches =
+    cause_text cause ++ codes " clock " ++ decimal clock ++ codes " switches " ++ decimal switches ++ codes "\n"
+
+-- the parts of a trace and of an end, each under its header line
+abbrev pub parts_text : List Line → Option End → ℕ → ℕ → List ℕ
+parts_text lines cause clock switches =
+    codes "%trace\n" ++ trace_text lines ++ codes "%end\n" ++ end_text cause clock switches
+
+-- the text of a run: its trace and its end
+abbrev pub run_text : App → Places → List ℕ
+run_text app ports =
+    let steps = run_steps app ports in
+    parts_text (lines_in steps) (cause_in steps) (run_end app ports).clock (switches_in steps)
