@@ -1,5 +1,6 @@
 //! Why a case, or a file of cases, is not of the form.
 
+use em_base::NoMemory;
 use std::alloc::{AllocError, AllocFailed};
 use thiserror::Error;
 
@@ -62,6 +63,12 @@ pub enum Wrong {
     /// It is no case.
     #[error(transparent)]
     NoCase(#[from] Fault),
+}
+
+impl From<NoMemory> for Wrong {
+    fn from(_: NoMemory) -> Wrong {
+        Wrong::NoCase(Fault::NoMemory)
+    }
 }
 
 impl From<AllocError> for Wrong {

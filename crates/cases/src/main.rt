@@ -20,6 +20,9 @@
 //! | `status` | the number of the status | refused |
 //! | `output` | the bytes that must be written | there is `same_as` |
 //! | `same_as` | the name of a file that has them | there is `output` |
+//! | `ports` | what the eight ports show afterwards, between spaces: each a number, or `none` where it is unplugged | not compared |
+//!
+//! Each call is given eight ports of its own, all showing 0: 0 to 3 latch, 4 and 5 count, 6 and 7 sum.
 //!
 //! Bytes are a piece or an array of pieces. A piece is a text, the number of a byte, or `{ text = "..", times = N }` for a text
 //! that stands several times.

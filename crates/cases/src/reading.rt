@@ -10,8 +10,8 @@ use std::rt::Files;
 use toml::{Table, Value};
 
 /// The keys of a case. All but the first may be given by its file, for the cases that don't have them.
-const KEYS: [&str; 9] = [
-    "shows", "words", "input", "base", "put", "after", "status", "output", "same_as",
+const KEYS: [&str; 10] = [
+    "shows", "words", "input", "base", "put", "after", "status", "output", "same_as", "ports",
 ];
 
 /// A case: what a call of the program is given, and what it must come to.
@@ -121,6 +121,10 @@ pub fn read_case<'a, R: Files + Alloc<A = Global>>(
         expected: Outcome {
             status: keys.status()?,
             output: output(rt, keys)?,
+            ports: match keys.text("ports")? {
+                Some(text) => Vec::from_slice(rt.alloc(), text.as_bytes())?,
+                None => Vec::new(rt.alloc()),
+            },
         },
     })
 }
