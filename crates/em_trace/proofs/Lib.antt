@@ -4,3 +4,9 @@ pub mod LineKinds
 pub mod LineTexts
 pub mod TraceTexts
 pub mod PrintedBack
+pub mod SaidLines
+pub mod NextLines
+pub mod FoundLines
+pub mod OneSchedule
+pub mod ScheduleSteps
+pub mod ScheduleBack

@@ -22,7 +22,7 @@ no-space word h =
     (AllPass-from_list_all (λ byte. nat_lt 32 byte) word h)
 
 -- words with a space between them are found again
-words-joined : (word : List ℕ) (rest : List (List ℕ)) → IsPlain word → AllByRecursion IsPlain rest → words_of (join_with_byte 32 (word ∷ rest)) ≡ word ∷ rest
+pub words-joined : (word : List ℕ) (rest : List (List ℕ)) → IsPlain word → AllByRecursion IsPlain rest → words_of (join_with_byte 32 (word ∷ rest)) ≡ word ∷ rest
 words-joined word [] h t = slice_split_none (λ byte. nat_eq byte 32) word (no-space word h)
 words-joined word (next ∷ rest) h t =
     slice_split_at (λ byte. nat_eq byte 32) word 32 (join_with_byte 32 (next ∷ rest)) (no-space word h) refl
@@ -75,7 +75,8 @@ IsPrinted text = list_all (λ byte. nat_lt 31 byte) text ≡ true
 plain-printed : (word : List ℕ) → IsPlain word → IsPrinted word
 plain-printed word h = list_all-weaker (λ byte. nat_lt 32 byte) (λ byte. nat_lt 31 byte) word (λ byte above. grind (arith, nat_tests)) h
 
-joined-printed : (words : List (List ℕ)) → AllByRecursion IsPlain words → IsPrinted (join_with_byte 32 words)
+-- nor of words with a space between them
+pub joined-printed : (words : List (List ℕ)) → AllByRecursion IsPlain words → IsPrinted (join_with_byte 32 words)
 joined-printed [] h = refl
 joined-printed (word ∷ []) h = plain-printed word h.0
 joined-printed (word ∷ next ∷ rest) h =

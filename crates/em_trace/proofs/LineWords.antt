@@ -42,7 +42,8 @@ plain-decimal n h = plain-digits (decimal n) (decimal_is_IsNumeral n h).0.1
 pub count-exact : IsExact count_of decimal IsCount
 count-exact = record { tells = count-tells; finds = count-finds; plain = plain-decimal }
 
-below-tells : (limit : ℕ) (found : Option ℕ) (n : ℕ) → below limit found ≡ Some n → (found ≡ Some n) × (n < limit)
+-- a number below a limit is the one that there was
+pub below-tells : (limit : ℕ) (found : Option ℕ) (n : ℕ) → below limit found ≡ Some n → (found ≡ Some n) × (n < limit)
 below-tells limit None n e = absurd (cc)
 below-tells limit (Some m) n e = by_size (nat_lt m limit) refl e
   where
@@ -53,12 +54,14 @@ below-tells limit (Some m) n e = by_size (nat_lt m limit) refl e
         let small : m < limit = grind (arith, nat_tests) in
         (k, omega arith)
 
-below-finds : (limit n : ℕ) → n < limit → below limit (Some n) ≡ Some n
+-- a number that is below the limit stays
+pub below-finds : (limit n : ℕ) → n < limit → below limit (Some n) ≡ Some n
 below-finds limit n h =
     let small : nat_lt n limit ≡ true = grind (arith, nat_tests) in
     ap (λ b. if b then Some n else None) small
 
-below-exact : (limit : ℕ) → limit ≤ 2 ^ 64 → IsExact (λ text. below limit (count_of text)) decimal (λ n. n < limit)
+-- numbers below a limit are found again
+pub below-exact : (limit : ℕ) → limit ≤ 2 ^ 64 → IsExact (λ text. below limit (count_of text)) decimal (λ n. n < limit)
 below-exact limit h = record {
   tells = λ text n e. (let b = below-tells limit (count_of text) n e in ((count-tells text n b.0).0, b.1));
   finds = λ n small. ap (below limit) (count-finds n (omega arith)) ∙ below-finds limit n small;

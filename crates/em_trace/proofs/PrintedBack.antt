@@ -35,7 +35,7 @@ parted line [] h = absurd (omega arith)
 parted line (part ∷ parts) h = refl
 
 -- a printed line with its line feed, and the lines of what follows
-lines-printed : (line rest : List ℕ) → IsPrinted line → lines (line ++ 10 ∷ rest) ≡ line ∷ lines rest
+pub lines-printed : (line rest : List ℕ) → IsPrinted line → lines (line ++ 10 ∷ rest) ≡ line ∷ lines rest
 lines-printed line rest h =
     let some : 0 < length (slice_split is_feed rest) = omega (arith, length-slice_split is_feed rest) in
     ap lines_of_parts (slice_split_at is_feed line 10 rest (no-feed line h) refl) ∙ parted line (slice_split is_feed rest) some
