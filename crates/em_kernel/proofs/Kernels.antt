@@ -1,64 +1,25 @@
 -- What is always so of a kernel, after a step.
-use Rattle.std.proofs.Common.{◌≡◌, ◌∙◌, ℕ, zero, suc, ◌+◌, ◌<◌, ◌≤◌, ◌^◌, Bool, true, false, List, [], ◌∷◌, length, drop, slice_index_or, All, IfSome, Option, None, Some, sym, ap, subst, refl, cond, arith}
+use Rattle.std.proofs.Common.{◌≡◌, ◌∙◌, ℕ, zero, suc, ◌+◌, ◌<◌, ◌≤◌, Bool, true, false, List, [], ◌∷◌, length, drop, slice_index_or, All, Option, None, Some, sym, ap, subst, cond, arith}
 use Rattle.em_base.specs.declared.events.Timed.{Timed}
 use Rattle.em_base.specs.declared.ids.TaskId.{TaskId}
-use Rattle.em_ports.specs.Ports.{Places}
 use Rattle.em_trace.specs.declared.lines.Line.{Line}
-use Rattle.em_gate.specs.State.{Plain}
-use Rattle.em_threads.specs.Threads.{Thread, thread_at}
+use Rattle.em_gate.specs.State.{Task}
+use Rattle.em_system.specs.Held.{Held, selected_of, tasks_of}
 use Rattle.em_kernel.specs.declared.meter.Meter.{Meter}
-use Rattle.em_kernel.specs.Held.{Held, Holds}
-use Rattle.em_kernel.specs.Kept.{tasks_of, promises_of}
 use Rattle.em_kernel.specs.Metered.{metered, with_one, with_switch}
-use Rattle.em_kernel.specs.Possible.{IsPossible}
-use Rattle.em_kernel.specs.Sound.{IsSound}
-use Rattle.em_kernel.specs.Standings.{number_of}
+use Rattle.em_system.specs.Possible.{IsPossible}
+use Rattle.em_system.specs.Sound.{IsSound}
+use Rattle.em_system.specs.Standings.{number_of}
 use Rattle.em_kernel.specs.Step.{is_switch, current_after}
-use Rattle.std.proofs.lemmas.List.Elements.{All-nil, All-cons, All-head, All-tail}
+use Rattle.std.proofs.lemmas.List.Elements.{All-weaker}
 use Rattle.em_base.specs.declared.jobs.Charges.{Charges}
-use Rattle.em_base.specs.Selection.{selected}
-use Rattle.em_gate.specs.Selecting.{scene_in}
 use Rattle.em_demand.specs.Charges.{charges_of}
 use Rattle.em_kernel.specs.Kernels.{IsKernel}
-use Rattle.em_kernel.proofs.Sound.{sound_anywhere, sound_more}
-use Rattle.em_kernel.proofs.Stands.{task_of_thread}
 
--- a plain state for what is held and for ports
-abbrev pub plain_of : Held → Places → Plain
-plain_of held places = record {
-  tasks = tasks_of held.threads;
-  lasts = [];
-  arrivals = [];
-  owners = held.owners;
-  values = [];
-  ports = places;
-  shared = held.shared;
-  lines = [];
-}
-
--- what is held stands for it
-pub plain_holds : (held : Held) (places : Places) → Holds held (plain_of held places) (promises_of held.threads)
-plain_holds held places = record { tasks = refl; promised = refl; owners = refl; shared = refl }
-
--- what is sound of a task is sound of its thread
-pub sound_thread : (n : ℕ) (threads : List Thread) (t : ℕ) → All (IsSound n) (tasks_of threads) → t < length threads → IsSound n (thread_at threads t).task
-sound_thread n threads t sound h = subst (IsSound n) (task_of_thread threads t h) (sound_anywhere n (tasks_of threads) t sound)
-
--- every job of a sound task comes early
-pub early_threads : (n : ℕ) (threads : List Thread) → All (IsSound n) (tasks_of threads) → (t : ℕ) → t < length threads
-    → IfSome (thread_at threads t).task.job (λ job. job.arrival < 2 ^ 63)
-early_threads n threads sound t h = (sound_thread n threads t sound h).early
-
-few_here : (n : ℕ) (threads : List Thread) → n < 2 ^ 63 → All (IsSound n) (tasks_of threads) → All (λ thread. thread.task.taken < 2 ^ 63) threads
-few_here n [] h sound = All-nil (λ thread. thread.task.taken < 2 ^ 63)
-few_here n (thread ∷ threads) h sound =
-    All-cons (λ thread. thread.task.taken < 2 ^ 63) thread threads
-    (omega (arith, h, (All-head (IsSound n) thread.task (tasks_of threads) sound).few))
-    (few_here n threads h (All-tail (IsSound n) thread.task (tasks_of threads) sound))
-
--- a sound task was given few jobs
-pub few_jobs : (n : ℕ) (threads : List Thread) → n < 2 ^ 63 → All (IsSound n) (tasks_of threads) → All (λ thread. thread.task.taken < 2 ^ 63) threads
-few_jobs n threads h sound = few_here n threads h sound
+-- tasks that are sound for so many jobs are sound for more
+pub sound_more : (n m : ℕ) (tasks : List Task) → n ≤ m → All (IsSound n) tasks → All (IsSound m) tasks
+sound_more n m tasks le s =
+    All-weaker (IsSound n) (IsSound m) (λ task t. record { few = omega (arith, le, t.few); early = t.early; later = t.later; working = t.working }) tasks s
 
 nothing_there : {A : Type 0} (x : A) (rest : List A) → [] ≡ x ∷ rest → ⊥
 nothing_there x rest e = cc
@@ -104,19 +65,18 @@ count_within count (Some line) h = omega (arith, h)
 
 -- what is always so of a kernel is so after a step at a cost, once the selection is made again
 pub next_kernel : (held held' : Held) (charges : Charges) (events : List Timed) (at at' : ℕ) (meter : Meter) (task : Option TaskId) (line : Option Line) (cost : ℕ)
-    → IsKernel held charges events at meter → held'.app ≡ held.app → length held'.threads ≡ length held'.app.table.tasks
+    → IsKernel held charges events at meter → held'.app ≡ held.app
     → at' ≤ length events → at + 1 ≤ at' + cost → cost ≤ 62
-    → number_of task ≡ selected (scene_in held'.app.table.tasks (tasks_of held'.threads) (promises_of held'.threads) held'.owners)
+    → number_of task ≡ selected_of held'
     → All (IsSound (at + meter.clock + 1)) (tasks_of held'.threads)
     → meter.clock < held.app.table.horizon → meter.count < 1000000
     → IsKernel held' charges events at' (metered meter task line cost charges.switch)
-next_kernel held held' charges events at at' meter task line cost k app all within enough cheap found sound early short =
+next_kernel held held' charges events at at' meter task line cost k app within enough cheap found sound early short =
     let switched : Bool = is_switch meter.current (number_of task) in
     let least = cost_at_least switched cost charges.switch in
     record {
       charged = k.charged ∙ ap (λ a. charges_of a.table) (sym app);
       cheap = k.cheap;
-      all = all;
       horizon = subst (λ a. a.table.horizon ≤ 20000000) (sym app) k.horizon;
       within = within;
       few = k.few;

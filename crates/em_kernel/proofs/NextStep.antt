@@ -10,7 +10,8 @@ use Rattle.em_ports.specs.Ports.{Places}
 use Rattle.em_gate.specs.Selecting.{counted_selected, scene_in}
 use Rattle.em_gate.specs.State.{Counted, most_lines}
 use Rattle.em_kernel.specs.declared.did.End.TheVariants.{Horizon, Lines}
-use Rattle.em_kernel.specs.Kept.{Kept, Stands, promises_of, tasks_of}
+use Rattle.em_kernel.specs.Kept.{Kept, Stands}
+use Rattle.em_system.specs.Held.{promises_of, tasks_of}
 use Rattle.em_kernel.specs.Step.{chosen, delivered, due, ended, next, ran, step, waited}
 
 not_some : (event : Event) → None ≡ Some event → ⊥

@@ -1,93 +1,29 @@
 -- What a step of the selected task settles.
-use Rattle.std.proofs.Common.{◌≡◌, ◌∙◌, ℕ, ◌+◌, ◌<◌, ◌==◌, ◌++◌, if◌then◌else◌, List, [], length, All, Bool, true, false, not, Option, None, Some, IsSome, sym, ap, subst, refl, arith, ℤ}
-use Rattle.std.proofs.lemmas.List.{length-map, length-set}
+use Rattle.std.proofs.Common.{◌≡◌, ◌∙◌, ℕ, ◌+◌, ◌==◌, ◌++◌, if◌then◌else◌, List, [], length, Bool, false, not, Option, None, Some, sym, ap, subst, refl, arith}
 use Rattle.em_base.specs.declared.apps.App.{App}
 use Rattle.em_base.specs.declared.events.Timed.{Timed}
-use Rattle.em_base.specs.declared.ids.SemId.{SemId}
 use Rattle.em_base.specs.declared.ids.TaskId.{TaskId}
-use Rattle.em_base.specs.declared.jobs.Charges.{Charges}
-use Rattle.em_base.specs.declared.jobs.Status.TheVariants.{Awake}
-use Rattle.em_base.specs.declared.tables.Table.{Table}
-use Rattle.em_base.specs.declared.tables.TaskRow.{TaskRow}
-use Rattle.em_hart.specs.Hart.{Memory}
-use Rattle.em_base.specs.Selection.{is_active, owner_at, selected}
+use Rattle.em_base.specs.Selection.{selected}
+use Rattle.em_hart.specs.declared.answers.Class.{Class}
+use Rattle.em_hart.specs.declared.answers.Stepped.TheVariants.{Ran as RanStep, Call as CallStep, Fault as FaultStep}
 use Rattle.em_ports.specs.Ports.{Places}
 use Rattle.em_trace.specs.declared.lines.Line.{Line}
-use Rattle.em_gate.specs.declared.calls.Call.{Call as KernelCall}
-use Rattle.em_gate.specs.declared.calls.Call.TheVariants.{WaitJob, Acquire, Release, Out, Write, Read, Signal, Exit, Unknown}
-use Rattle.em_gate.specs.Calls.{Known, call_of, refusal}
-use Rattle.em_gate.specs.Effects.{after_outcome, gives, line_by, option_list, values_after, with_core as task_with_core}
-use Rattle.em_gate.specs.Outcome.{Outcome, Works, Falls, Refuses, Ends, Gets, Blocks, Frees, Puts, Publishes, Fetches, Signals, Leaves, acquire_outcome, accepted, call_outcome, call_outcome_by, outcome}
+use Rattle.em_gate.specs.Effects.{after_outcome, gives, line_by, option_list, values_after}
+use Rattle.em_gate.specs.Outcome.{Outcome, Works, Falls, Refuses, Ends, Gets, Blocks, Frees, Puts, Publishes, Fetches, Signals, Leaves, outcome}
 use Rattle.em_gate.specs.Selecting.{scene_in}
-use Rattle.em_gate.specs.State.{Core, Counted, Plain, task_at}
+use Rattle.em_gate.specs.State.{Counted, Plain, Task, task_at}
 use Rattle.em_demand.specs.Charges.{charges_of}
-use Rattle.em_threads.specs.Threads.{Thread, changed, thread_at, with_core}
 use Rattle.em_kernel.specs.declared.did.StepKind.{StepKind}
-use Rattle.em_kernel.specs.declared.did.StepKind.TheVariants.{Call}
 use Rattle.em_kernel.specs.declared.did.What.TheVariants.{Stepped}
 use Rattle.em_kernel.specs.declared.meter.Meter.{Meter}
-use Rattle.em_kernel.specs.Held.{Held, Holds}
-use Rattle.em_kernel.specs.Kept.{IsCurrent, Stands, promises_of, tasks_of}
+use Rattle.em_kernel.specs.Kept.{IsCurrent, Stands}
 use Rattle.em_kernel.specs.Metered.{metered, with_one, with_switch}
-use Rattle.em_kernel.specs.Promises.{promises_after}
-use Rattle.em_kernel.specs.Sound.{IsSound}
-use Rattle.em_kernel.specs.Standings.{number_of}
+use Rattle.em_system.specs.Promises.{promises_after}
+use Rattle.em_system.specs.Standings.{number_of}
+use Rattle.em_system.specs.Held.{Held, Holds, promises_of, selected_of, tasks_of}
+use Rattle.em_system.specs.Taken.{stepped_of}
 use Rattle.em_kernel.specs.Step.{current_after, is_switch, kind_of, ran, step_charge, stepped}
-use Rattle.em_kernel.proofs.Kernels.{plain_of, sound_thread}
-use Rattle.em_kernel.proofs.Scenes.{scene_same}
-use Rattle.em_kernel.proofs.Sound.{sound_outcome}
-use Rattle.em_kernel.proofs.Stands.{promises_same, task_of_thread}
 use Rattle.em_kernel.proofs.Steps.{did_of, keeps, lines_counted, settles_by}
-
--- ---- a call is a call
-
-acquire_kind : (s : ℕ) (owner : Option TaskId) → kind_of (acquire_outcome s owner) ≡ Call
-acquire_kind s None = refl
-acquire_kind s (Some u) = refl
-
-acquire_charge : (charges : Charges) (s : ℕ) (owner : Option TaskId) → step_charge charges (acquire_outcome s owner) ≡ charges.call
-acquire_charge charges s None = refl
-acquire_charge charges s (Some u) = refl
-
-accepted_kind : (table : Table) (owners : List (Option TaskId)) (call : KernelCall) → kind_of (accepted table owners call) ≡ Call
-accepted_kind table owners WaitJob = refl
-accepted_kind table owners (Acquire s) = acquire_kind s (owner_at owners s)
-accepted_kind table owners (Release s) = refl
-accepted_kind table owners (Out port word) = refl
-accepted_kind table owners (Write m at) = refl
-accepted_kind table owners (Read m at) = refl
-accepted_kind table owners (Signal u word) = refl
-accepted_kind table owners Exit = refl
-accepted_kind table owners (Unknown number) = refl
-
-accepted_charge : (charges : Charges) (table : Table) (owners : List (Option TaskId)) (call : KernelCall) → step_charge charges (accepted table owners call) ≡ charges.call
-accepted_charge charges table owners WaitJob = refl
-accepted_charge charges table owners (Acquire s) = acquire_charge charges s (owner_at owners s)
-accepted_charge charges table owners (Release s) = refl
-accepted_charge charges table owners (Out port word) = refl
-accepted_charge charges table owners (Write m at) = refl
-accepted_charge charges table owners (Read m at) = refl
-accepted_charge charges table owners (Signal u word) = refl
-accepted_charge charges table owners Exit = refl
-accepted_charge charges table owners (Unknown number) = refl
-
-kind_by : (table : Table) (owners : List (Option TaskId)) (call : KernelCall) (answer : Option ℤ) → kind_of (call_outcome_by table owners call answer) ≡ Call
-kind_by table owners call None = accepted_kind table owners call
-kind_by table owners call (Some code) = refl
-
-charge_by : (charges : Charges) (table : Table) (owners : List (Option TaskId)) (call : KernelCall) (answer : Option ℤ)
-    → step_charge charges (call_outcome_by table owners call answer) ≡ charges.call
-charge_by charges table owners call None = accepted_charge charges table owners call
-charge_by charges table owners call (Some code) = refl
-
--- whatever a call comes to, its step is a call's
-pub call_kind : (table : Table) (t : ℕ) (known : Known) (owners : List (Option TaskId)) (core : Core) → kind_of (call_outcome table t known owners core) ≡ Call
-call_kind table t known owners core = kind_by table owners (call_of core.registers) (refusal (call_of core.registers) table t known)
-
--- and costs as one
-pub call_charge : (charges : Charges) (table : Table) (t : ℕ) (known : Known) (owners : List (Option TaskId)) (core : Core)
-    → step_charge charges (call_outcome table t known owners core) ≡ charges.call
-call_charge charges table t known owners core = charge_by charges table owners (call_of core.registers) (refusal (call_of core.registers) table t known)
 
 -- ---- values and lines after a step
 
@@ -149,24 +85,6 @@ settled_step app app' held places c t kind o line cost sw meter meter' left task
     × (did_of (Stepped t (kind_of o)) line total meter'.clock switched ≡ (stepped app c t out).did)) (sym is) told in
     subst (λ k. Stands (keeps app' held left meter') places (ran app c t).state × (did_of (Stepped t k) line total meter'.clock switched ≡ (ran app c t).did)) ek by_outcome
 
--- ---- what is always so, after a step of the selected task
-
--- the tasks are sound after a step of one that is Awake
-pub sound_step : (held held' : Held) (places : Places) (t : TaskId) (o : Outcome) (n : ℕ) (promises : List (Option SemId))
-    → All (IsSound n) (tasks_of held.threads) → t.0 < length held.threads → (thread_at held.threads t.0).task.status ≡ Awake
-    → Holds held' (after_outcome o t (plain_of held places)) promises
-    → All (IsSound (n + 1)) (tasks_of held'.threads)
-sound_step held held' places t o n promises sound inside awake holds =
-    let there : t.0 < length (tasks_of held.threads) = subst (λ k. t.0 < k) (sym (length-map held.threads (λ thread. thread.task))) inside in
-    let active : is_active (task_at (tasks_of held.threads) t.0).status ≡ true =
-    ap (λ task. is_active task.status) (task_of_thread held.threads t.0 inside) ∙ ap is_active awake in
-    subst (All (IsSound (n + 1))) (sym holds.tasks) (sound_outcome o t (plain_of held places) n sound there active)
-
--- an Awake task that is sound has a job
-pub awake_works : (n : ℕ) (threads : List Thread) (t : ℕ) → All (IsSound n) (tasks_of threads) → t < length threads
-    → (thread_at threads t).task.status ≡ Awake → IsSome (thread_at threads t).task.job
-awake_works n threads t sound inside awake = (sound_thread n threads t sound inside).working (ap is_active awake)
-
 -- where the task goes on that ran last, there is no switch
 pub same_switch : (selected current : Option TaskId) → IsCurrent (number_of selected) current → is_switch current (number_of selected) ≡ false
 same_switch None current h = refl
@@ -191,19 +109,31 @@ metered_same meter cost sw h =
     (if b then meter.switches + 1 else meter.switches)) still
     ∙ ap (λ now. meter_of (meter.clock + cost) now meter.selected meter.count meter.switches) (same_current meter.selected meter.current h))
 
--- an instruction leaves the selection as it is
-pub worked_selects : (rows : List TaskRow) (held held' : Held) (core : Core) (shared : Memory) (t : ℕ)
-    → held' ≡ record held { threads = changed (with_core core) t held.threads; shared = shared } → t < length held.threads
-    → selected (scene_in rows (tasks_of held.threads) (promises_of held.threads) held.owners)
-    ≡ selected (scene_in rows (tasks_of held'.threads) (promises_of held'.threads) held'.owners)
-worked_selects rows held held' core shared t e h =
-    let threads = changed (with_core core) t held.threads in
-    ap (λ scene. selected scene) (sym (scene_same rows core t held.threads (promises_of held.threads) held.owners h))
-    ∙ ap (λ promises. selected (scene_in rows (tasks_of threads) promises held.owners)) (sym (promises_same (task_with_core core) t held.threads h))
-    ∙ ap (λ (k : Held). selected (scene_in rows (tasks_of k.threads) (promises_of k.threads) k.owners)) (sym e)
+-- ---- the line of an instruction
 
--- and as many tasks
-pub worked_all : (held held' : Held) (core : Core) (shared : Memory) (t : ℕ)
-    → held' ≡ record held { threads = changed (with_core core) t held.threads; shared = shared } → length held'.threads ≡ length held.threads
-worked_all held held' core shared t e =
-    ap (λ (k : Held). length k.threads) e ∙ length-set held.threads t (with_core core (thread_at held.threads t))
+not_ran : (class : Class) → CallStep ≡ RanStep class → ⊥
+not_ran class e = cc
+
+not_fallen : (cause : ℕ) (class : Class) → FaultStep cause ≡ RanStep class → ⊥
+not_fallen cause class e = cc
+
+-- an instruction gives no line
+pub line_of_ran : (o : Outcome) (class : Class) (t : TaskId) (task : Task) (p : Plain) → stepped_of o ≡ RanStep class → None ≡ line_by o t task p
+unfolding line_by
+line_of_ran (Works class' core shared) class t task p e = refl
+line_of_ran (Falls cause) class t task p e = absurd (not_fallen cause class e)
+line_of_ran (Refuses code) class t task p e = absurd (not_ran class e)
+line_of_ran Ends class t task p e = absurd (not_ran class e)
+line_of_ran (Gets s) class t task p e = absurd (not_ran class e)
+line_of_ran (Blocks s) class t task p e = absurd (not_ran class e)
+line_of_ran (Frees s) class t task p e = absurd (not_ran class e)
+line_of_ran (Puts port word) class t task p e = absurd (not_ran class e)
+line_of_ran (Publishes m at count) class t task p e = absurd (not_ran class e)
+line_of_ran (Fetches m at) class t task p e = absurd (not_ran class e)
+line_of_ran (Signals u word) class t task p e = absurd (not_ran class e)
+line_of_ran Leaves class t task p e = absurd (not_ran class e)
+
+-- what is held selects the same by an equal application
+pub by_app : (held : Held) (app : App) → held.app ≡ app
+    → selected_of held ≡ selected (scene_in app.table.tasks (tasks_of held.threads) (promises_of held.threads) held.owners)
+by_app held app e = ap (λ (a : App). selected (scene_in a.table.tasks (tasks_of held.threads) (promises_of held.threads) held.owners)) e

@@ -3,28 +3,26 @@ use Rattle.std.proofs.Common.{◌≡◌, ◌∙◌, ℕ, ◌+◌, List, [], ◌�
 use Rattle.em_base.specs.declared.apps.App.{App}
 use Rattle.em_base.specs.declared.events.Event.{Event}
 use Rattle.em_base.specs.declared.events.Timed.{Timed}
-use Rattle.em_base.specs.declared.ids.SemId.{SemId}
 use Rattle.em_base.specs.declared.ids.TaskId.{TaskId}
 use Rattle.em_ports.specs.Ports.{Places}
 use Rattle.em_base.specs.declared.events.Event.TheVariants.{Release, Unplug}
-use Rattle.em_gate.specs.State.{Counted, Plain, task_at}
+use Rattle.em_gate.specs.State.{Counted, Plain}
 use Rattle.em_gate.specs.Selecting.{counted_selected}
 use Rattle.em_kernel.specs.declared.did.Did.{Did}
 use Rattle.em_kernel.specs.declared.did.End.TheVariants.{Quiet}
 use Rattle.em_kernel.specs.Kept.{Kept, Stands}
 use Rattle.em_base.specs.Selection.{selected}
 use Rattle.em_trace.specs.declared.lines.Line.{Line}
-use Rattle.em_gate.specs.Effects.{given, option_list}
-use Rattle.em_gate.specs.Events.{after_event, event_line, release_line}
-use Rattle.em_kernel.specs.Promises.{promises_after_event, promises_given}
+use Rattle.em_gate.specs.Effects.{option_list}
+use Rattle.em_gate.specs.Events.{after_event, event_line}
 use Rattle.em_gate.specs.Selecting.{scene_in}
 use Rattle.em_demand.specs.Charges.{charges_of}
 use Rattle.em_kernel.specs.declared.did.What.{What}
 use Rattle.em_kernel.specs.declared.meter.Meter.{Meter}
-use Rattle.em_kernel.specs.Held.{Held, Holds}
-use Rattle.em_kernel.specs.Kept.{promises_of, tasks_of}
+use Rattle.em_system.specs.Held.{Held, Holds}
+use Rattle.em_system.specs.Held.{promises_of, tasks_of}
 use Rattle.em_kernel.specs.Metered.{metered, with_one, with_switch}
-use Rattle.em_kernel.specs.Standings.{number_of}
+use Rattle.em_system.specs.Standings.{number_of}
 use Rattle.em_kernel.specs.Step.{ended, idled, waited, settled, total_cost, is_switch, current_after}
 
 -- nothing is left: the run ends
@@ -127,22 +125,6 @@ settles app held places c what line cost meter left task s p l clock current lin
           ∙ ap (λ n. did_of what line (total_cost app c cost) n (is_switch meter.current (number_of task))) after
           ∙ ap (λ b. did_of what line (total_cost app c cost) (c.clock + total_cost app c cost) b) switch,
     )
-
--- what is held, the ports and the line are those after an event
-abbrev pub Happens : Held → Places → Option Line → App → Plain → List (Option SemId) → Event → Type 0
-Happens held places line app p promises event =
-    Holds held (after_event event p) (promises_after_event app event p promises)
-    × (places ≡ (after_event event p).ports)
-    × (line ≡ event_line event p)
-
--- a release has happened
-pub released : (app : App) (p : Plain) (promises : List (Option SemId)) {held : Held} {places : Places} {line : Line} {event : Event} (t : TaskId) (time word : ℕ)
-    → event ≡ Release t time word → Holds held (given t.0 time word p) (promises_given app t.0 p promises) → places ≡ p.ports
-    → line ≡ release_line t time word (task_at p.tasks t.0)
-    → Happens held places (Some line) app p promises event
-released app p promises {held} {places} {line} t time word is s seen e =
-    subst (Happens held places (Some line) app p promises) (sym is)
-    (record { tasks = s.tasks; promised = s.promised; owners = s.owners; shared = s.shared }, seen, ap Some e)
 
 -- the same, where the kernel has these by equal ways
 pub settles_by : (app app' : App) (held : Held) (places : Places) (c : Counted) (what : What) (line line' : Option Line) (cost cost' sw : ℕ) (meter meter' : Meter)

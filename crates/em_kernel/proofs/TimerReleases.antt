@@ -20,7 +20,7 @@ use Rattle.em_base.specs.Events.{IsEventAt, IsScript}
 use Rattle.em_base.specs.Tables.{IsGiven, IsTable, IsTask, SuitsKind, longest, releases_of}
 use Rattle.em_base.specs.Keys.{numbered}
 use Rattle.em_gate.specs.Events.{releases_by, timer_release, timer_releases, timer_times}
-use Rattle.em_kernel.specs.Possible.{IsPossible}
+use Rattle.em_system.specs.Possible.{IsPossible}
 
 -- ---- rounded up divisions
 

@@ -1,14 +1,14 @@
 -- What a kernel keeps, and the states that it stands for.
-use Rattle.std.specs.Prelude.{◌≡◌, ℕ, ◌+◌, ◌-◌, List, [], length, map, Option, Some}
+use Rattle.std.specs.Prelude.{◌≡◌, ℕ, ◌+◌, ◌-◌, List, [], length, Option, Some}
 use Rattle.em_base.specs.declared.apps.App.{App}
 use Rattle.em_base.specs.declared.events.Timed.{Timed}
-use Rattle.em_base.specs.declared.ids.SemId.{SemId}
 use Rattle.em_base.specs.declared.ids.TaskId.{TaskId}
 use Rattle.em_hart.specs.Hart.{Memory}
 use Rattle.em_ports.specs.Ports.{Places}
-use Rattle.em_gate.specs.State.{Task, Counted}
+use Rattle.em_gate.specs.State.{Counted}
 use Rattle.em_gate.specs.Selecting.{counted_selected}
 use Rattle.em_threads.specs.Threads.{Thread}
+use Rattle.em_system.specs.Held.{Held, promises_of, tasks_of}
 
 -- what a kernel keeps: its application, the tasks, the owners, the shared window, the events left, the clock, the task that ran last, the
 -- number of lines, and the number of switches
@@ -23,11 +23,9 @@ pub record Kept : Type 0 where
   pub count : ℕ
   pub switches : ℕ
 
-abbrev pub tasks_of : List Thread → List Task
-tasks_of threads = map (λ thread. thread.task) threads
-
-abbrev pub promises_of : List Thread → List (Option SemId)
-promises_of threads = map (λ thread. thread.promise) threads
+-- what it holds of the tasks, the semaphores and the shared window
+abbrev pub held_by : Kept → Held
+held_by kept = record { app = kept.app; threads = kept.threads; owners = kept.owners; shared = kept.shared }
 
 -- more steps than are left to a kernel
 abbrev pub kept_fuel : Kept → ℕ

@@ -2,15 +2,13 @@
 use Rattle.std.specs.Prelude.{◌≡◌, ℕ, ◌+◌, ◌<◌, ◌≤◌, List, All, length}
 use Rattle.em_base.specs.declared.events.Timed.{Timed}
 use Rattle.em_base.specs.declared.jobs.Charges.{Charges}
-use Rattle.em_base.specs.Selection.{selected}
-use Rattle.em_gate.specs.Selecting.{scene_in}
 use Rattle.em_demand.specs.Charges.{charges_of}
 use Rattle.em_kernel.specs.declared.meter.Meter.{Meter}
-use Rattle.em_kernel.specs.Held.{Held}
-use Rattle.em_kernel.specs.Kept.{IsCurrent, promises_of, tasks_of}
-use Rattle.em_kernel.specs.Possible.{IsPossible}
-use Rattle.em_kernel.specs.Sound.{IsSound}
-use Rattle.em_kernel.specs.Standings.{number_of}
+use Rattle.em_kernel.specs.Kept.{IsCurrent}
+use Rattle.em_system.specs.Held.{Held, selected_of, tasks_of}
+use Rattle.em_system.specs.Possible.{IsPossible}
+use Rattle.em_system.specs.Sound.{IsSound}
+use Rattle.em_system.specs.Standings.{number_of}
 
 -- charges that are small numbers
 pub record AreCheap (charges : Charges) : Type 0 where
@@ -25,14 +23,12 @@ pub record AreCheap (charges : Charges) : Type 0 where
 pub record IsKernel (held : Held) (charges : Charges) (events : List Timed) (at : ℕ) (meter : Meter) : Type 0 where
   pub charged : charges ≡ charges_of held.app.table
   pub cheap : AreCheap charges
-  pub all : length held.threads ≡ length held.app.table.tasks
   pub horizon : held.app.table.horizon ≤ 20000000
   pub within : at ≤ length events
   pub few : length events ≤ 300000
   pub timely : All (λ event. event.time < held.app.table.horizon) events
   pub possible : All (λ event. IsPossible (length held.app.table.tasks) event.event) events
-  pub selects : number_of meter.selected
-      ≡ selected (scene_in held.app.table.tasks (tasks_of held.threads) (promises_of held.threads) held.owners)
+  pub selects : number_of meter.selected ≡ selected_of held
   pub runs : IsCurrent (number_of meter.selected) meter.current
   pub sound : All (IsSound (at + meter.clock)) (tasks_of held.threads)
   pub early : meter.clock ≤ 20000200

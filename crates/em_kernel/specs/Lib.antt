@@ -1,12 +1,6 @@
-pub mod Promises
 pub mod Step
 pub mod Run
-pub mod Standings
 pub mod Kept
-pub mod Held
-pub mod Possible
-pub mod Sound
-pub mod Carried
 pub mod Metered
 pub mod Kernels
 pub mod Shown

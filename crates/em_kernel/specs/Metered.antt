@@ -3,7 +3,7 @@ use Rattle.std.specs.Prelude.{ℕ, ◌+◌, Bool, Option, None, Some, if◌then�
 use Rattle.em_base.specs.declared.ids.TaskId.{TaskId}
 use Rattle.em_trace.specs.declared.lines.Line.{Line}
 use Rattle.em_kernel.specs.declared.meter.Meter.{Meter}
-use Rattle.em_kernel.specs.Standings.{number_of}
+use Rattle.em_system.specs.Standings.{number_of}
 use Rattle.em_kernel.specs.Step.{is_switch, current_after}
 
 -- a number, and one more where there is a line

@@ -9,9 +9,11 @@ use Rattle.em_base.specs.declared.jobs.Charges.{Charges}
 use Rattle.em_base.specs.Selection.{is_task}
 use Rattle.em_hart.specs.declared.answers.Class.{Class}
 use Rattle.em_hart.specs.declared.answers.Class.TheVariants.{Plain as Registers, Memory}
+use Rattle.em_hart.specs.declared.answers.Stepped.{Stepped as Taken}
+use Rattle.em_hart.specs.declared.answers.Stepped.TheVariants.{Ran as RanStep, Call as CallStep, Fault as FaultStep}
 use Rattle.em_trace.specs.declared.lines.Line.{Line}
 use Rattle.em_gate.specs.State.{Counted, most_lines, task_at}
-use Rattle.em_gate.specs.Outcome.{Outcome, Works, Falls, outcome}
+use Rattle.em_gate.specs.Outcome.{Outcome, outcome}
 use Rattle.em_gate.specs.Effects.{after_outcome, line_by}
 use Rattle.em_gate.specs.Events.{after_event, event_line}
 use Rattle.em_gate.specs.Selecting.{counted_selected}
@@ -23,7 +25,8 @@ use Rattle.em_kernel.specs.declared.did.StepKind.{StepKind}
 use Rattle.em_kernel.specs.declared.did.StepKind.TheVariants.{Instr, Call, Fault}
 use Rattle.em_kernel.specs.declared.did.What.{What}
 use Rattle.em_kernel.specs.declared.did.What.TheVariants.{Delivered, Stepped, Idled, Ended}
-use Rattle.em_kernel.specs.Promises.{promises_after, promises_after_event}
+use Rattle.em_system.specs.Promises.{promises_after, promises_after_event}
+use Rattle.em_system.specs.Taken.{stepped_of}
 
 -- a step: the state after it, and what it did
 pub record Step : Type 0 where
@@ -42,16 +45,23 @@ abbrev pub class_charge : Class → ℕ
 class_charge Registers = 1
 class_charge Memory = 2
 
--- what a step of a task costs: an instruction by its class, anything else as a call
+-- what a step of a task costs: an instruction by its class, a call or a fault as a call
+abbrev pub charge_by : Charges → Taken → ℕ
+charge_by charges (RanStep class) = class_charge class
+charge_by charges CallStep = charges.call
+charge_by charges (FaultStep cause) = charges.call
+
 abbrev pub step_charge : Charges → Outcome → ℕ
-step_charge charges (Works class core shared) = class_charge class
-step_charge charges _ = charges.call
+step_charge charges o = charge_by charges (stepped_of o)
 
 -- what a step of a task was
+abbrev pub kind_by : Taken → StepKind
+kind_by (RanStep class) = Instr
+kind_by CallStep = Call
+kind_by (FaultStep cause) = Fault
+
 abbrev pub kind_of : Outcome → StepKind
-kind_of (Works class core shared) = Instr
-kind_of (Falls cause) = Fault
-kind_of _ = Call
+kind_of o = kind_by (stepped_of o)
 
 -- ---- the switch
 

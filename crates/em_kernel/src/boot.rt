@@ -1,56 +1,17 @@
 //! The kernel before anything has happened.
-ghost use Rattle.std.specs.Prelude.{◌≡◌, ℕ, ◌+◌, ◌*◌, ◌%◌, ◌≤◌, [], length, map, max, replicate, IfOk};
+ghost use Rattle.std.specs.Prelude.{◌≡◌, [], IfOk};
 ghost use Rattle.em_base.specs.Apps.{IsApp};
-ghost use Rattle.em_gate.specs.Boot as spec;
 ghost use Rattle.em_ports.specs.Ports.{Places};
-ghost use Rattle.em_kernel.specs.Held.{held_boot};
 ghost use Rattle.em_kernel.specs.Kept.{Stands};
 ghost use Rattle.em_kernel.specs.Run.{counted_boot};
 
 use crate::events::events;
 use crate::kernel::Kernel;
 use crate::meter::Meter;
-use crate::ranking::ranks;
-use crate::selection::Standing;
-use crate::system::System;
-use em_base::{App, Key, NoMemory};
+use em_base::{App, NoMemory};
 use em_demand::charges;
-use em_hart::{SHARED_BASE, Window};
-use em_threads::Threads;
+use em_system::System;
 use std::alloc::Global;
-
-/// What selection sees of a task before it was looked at.
-const NO_STANDING: Standing = Standing {
-    key: Key {
-        level: 0,
-        deadline: 0,
-        id: 0,
-    },
-    active: false,
-    ready: false,
-    next: None,
-};
-
-impl<'a> System<'a> {
-    /// What is held of an application before anything has happened.
-    fn boot(alloc: Global, app: &'a App) -> Result<System<'a>, NoMemory>
-        requires app { IsApp app.now }
-        requires messages { app.now.table.messages ≡ [] }
-        requires hints { app.now.hints.hints ≡ [] }
-        ensures { IfOk result (λ system. system ≡ held_boot app.now) }
-    {
-        let rows = app.table.tasks.as_slice();
-        let first = app.image.shared.as_slice();
-        Ok(System {
-            app,
-            ranks: ranks(alloc, rows)?,
-            standings: vec![in alloc; NO_STANDING; rows.len()]?,
-            threads: Threads::new(alloc, app)?,
-            owners: vec![in alloc; None; usize::from(app.table.semaphores)]?,
-            shared: Window::new(alloc, SHARED_BASE, first, shared_length(app))?,
-        })
-    }
-}
 
 impl<'a> Kernel<'a> {
     /// The kernel of an application before anything has happened, for an application without messages and without hints: each
@@ -73,17 +34,4 @@ impl<'a> Kernel<'a> {
             meter: Meter::boot(),
         })
     }
-}
-
-/// The length of the shared window of an application, in bytes.
-fn shared_length(app: &App) -> u32
-    requires { IsApp app.now }
-    ensures length { result ≡ spec.shared_length app.now }
-    ensures whole { result % 4 ≡ 0 }
-    ensures within { result ≤ 65536 }
-    ensures room { 4 * length app.now.image.shared ≤ result }
-{
-    app.table
-        .shared
-        .max(4 * app.image.shared.as_slice().len() as u32)
 }

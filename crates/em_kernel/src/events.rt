@@ -3,7 +3,7 @@ ghost use Rattle.std.specs.Prelude.{◌≡◌, ◌<◌, ◌≤◌, ◌++◌, nat
 ghost use Rattle.em_base.specs.Apps.{IsApp};
 ghost use Rattle.em_base.specs.Tables.{IsTable, SuitsKind};
 ghost use Rattle.em_gate.specs.Events.{events_of, releases_by, timer_release, timer_releases, timer_times};
-ghost use Rattle.em_kernel.specs.Possible.{IsPossible};
+ghost use Rattle.em_system.specs.Possible.{IsPossible};
 
 use em_base::{App, Event, Kind, NoMemory, Table, TaskId, TaskRow, Timed};
 use std::alloc::Global;

@@ -4,18 +4,17 @@ ghost use Rattle.em_base.specs.declared.events.Timed.{Timed as TimedEvent};
 ghost use Rattle.em_base.specs.Apps.{IsApp};
 ghost use Rattle.em_ports.specs.Ports.{Places};
 ghost use Rattle.em_gate.specs.State.{Counted};
-ghost use Rattle.em_base.specs.Selection.{selected};
-ghost use Rattle.em_gate.specs.Selecting.{scene_in};
-ghost use Rattle.em_kernel.specs.Kept.{Stands, kept_fuel, promises_of, tasks_of};
+ghost use Rattle.em_system.specs.Held.{selected_of};
+ghost use Rattle.em_kernel.specs.Kept.{Stands, held_by, kept_fuel};
 ghost use Rattle.em_kernel.specs.Run.{counted_boot, is_end};
 ghost use Rattle.em_kernel.specs.Step as spec;
 
 use crate::did::{Did, End, StepKind, What};
 use crate::meter::Meter;
-use crate::system::System;
 use em_base::{Charges, Event, Steps, TaskId, Timed};
 use em_hart::{Class, Stepped};
 use em_ports::{Ports, Seen};
+use em_system::System;
 use em_trace::Line;
 use std::marker::Model;
 use std::sync::ledger::Ledger;
@@ -61,7 +60,9 @@ impl<'a> Model for Kernel<'a> {
 
 /// What an instruction costs, in cycles.
 fn class_charge(class: Class) -> u64
-    ensures { result ≡ spec.class_charge class }
+    ensures charge { result ≡ spec.class_charge class }
+    ensures some { 1 ≤ result }
+    ensures within { result ≤ 2 }
 {
     match class {
         Class::Plain => 1,
@@ -94,7 +95,7 @@ impl<'a> Kernel<'a> {
         // No queue is visited.
         ensures steps { steps.new ≡ steps.old }
     {
-        if self.meter.clock >= u64::from(self.system.app.table.horizon) {
+        if self.meter.clock >= u64::from(self.system.app().table.horizon) {
             return self.end(End::Horizon);
         }
         if self.meter.count >= MOST_LINES {
@@ -195,9 +196,7 @@ impl<'a> Kernel<'a> {
 
     /// The selected task takes a step.
     fn run(&mut self, t: TaskId, ports: &mut Ports) -> Did
-        requires selected { let held = self.old in
-            let promises = promises_of held.threads in
-            selected (scene_in held.app.table.tasks (tasks_of held.threads) promises held.owners) ≡ Some t.0 }
+        requires selected { selected_of (held_by self.old) ≡ Some t.0 }
         requires early { self.old.clock < self.old.app.table.horizon }
         requires short { self.old.count < 1000000 }
         ensures step { let seen = ⟦<Ports as Seen>⟧.seen_as in
@@ -208,47 +207,54 @@ impl<'a> Kernel<'a> {
             ≡ (if result.switched then self.old.switches + 1 else self.old.switches) }
         ensures falls { kept_fuel self.new < kept_fuel self.old }
     {
-        match self.system.carry_out(t) {
-            Stepped::Ran(class) => {
-                let cost = class_charge(class);
-                self.meter.clock += cost;
-                Did {
-                    what: What::Stepped(t, StepKind::Instr),
-                    line: None,
-                    cost,
-                    clock: self.meter.clock,
-                    switched: false,
-                }
-            }
-            Stepped::Call => {
-                let line = self.system.call(t, ports);
-                let selected = self.system.select();
-                let (cost, switched) = self
-                    .meter
-                    .settle(selected, &line, self.charges.call, self.charges.switch);
-                Did {
-                    what: What::Stepped(t, StepKind::Call),
-                    line,
-                    cost,
-                    clock: self.meter.clock,
-                    switched,
-                }
-            }
-            Stepped::Fault(cause) => {
-                let line = Some(self.system.fault(t, cause));
-                let selected = self.system.select();
-                let (cost, switched) = self
-                    .meter
-                    .settle(selected, &line, self.charges.call, self.charges.switch);
-                Did {
-                    what: What::Stepped(t, StepKind::Fault),
-                    line,
-                    cost,
-                    clock: self.meter.clock,
-                    switched,
-                }
-            }
+        let (stepped, line) = self.system.step(t, ports);
+        let what = What::Stepped(t, kind_of(stepped));
+        let cost = step_charge(&self.charges, stepped);
+        if let Stepped::Ran(_) = stepped {
+            // After an instruction the same task is selected, and there is no line.
+            self.meter.clock += cost;
+            return Did {
+                what,
+                line: None,
+                cost,
+                clock: self.meter.clock,
+                switched: false,
+            };
         }
+        let selected = self.system.select();
+        let (cost, switched) = self
+            .meter
+            .settle(selected, &line, cost, self.charges.switch);
+        Did {
+            what,
+            line,
+            cost,
+            clock: self.meter.clock,
+            switched,
+        }
+    }
+}
+
+/// What a step of a task was, by what its instruction came to.
+fn kind_of(stepped: Stepped) -> StepKind
+    ensures { result ≡ spec.kind_by stepped }
+{
+    match stepped {
+        Stepped::Ran(_) => StepKind::Instr,
+        Stepped::Call => StepKind::Call,
+        Stepped::Fault(_) => StepKind::Fault,
+    }
+}
+
+/// What a step of a task costs, in cycles.
+fn step_charge(charges: &Charges, stepped: Stepped) -> u64
+    ensures charge { result ≡ spec.charge_by charges.now stepped }
+    ensures some { 1 ≤ charges.now.call → 1 ≤ result }
+    ensures within { charges.now.call ≤ 62 → result ≤ 62 }
+{
+    match stepped {
+        Stepped::Ran(class) => class_charge(class),
+        Stepped::Call | Stepped::Fault(_) => charges.call,
     }
 }
 

@@ -1,7 +1,7 @@
 //! What the kernel counts: the clock, the lines and the switches; and which task runs.
 ghost use Rattle.std.specs.Prelude.{◌≡◌, ◌≤◌, ◌<◌, ◌^◌, ℕ};
 ghost use Rattle.em_kernel.specs.Metered as spec;
-ghost use Rattle.em_kernel.specs.Standings.{number_of};
+ghost use Rattle.em_system.specs.Standings.{number_of};
 ghost use Rattle.em_kernel.specs.Step as step_spec;
 
 use em_base::TaskId;

@@ -7,7 +7,6 @@ ghost use Rattle.em_kernel.specs.Shown.{view_of};
 
 use crate::did::View;
 use crate::kernel::Kernel;
-use crate::standing::{key, stopper};
 use em_base::TaskId;
 
 impl<'a> Kernel<'a> {
@@ -17,16 +16,12 @@ impl<'a> Kernel<'a> {
         ensures { (c : Counted) (places : Places) → Stands self.now places c
             → result ≡ view_of self.now.app c t.0 }
     {
-        let threads = &self.system.threads;
-        let status = threads.status(t);
-        let promise = threads.promise(t);
-        let rank = self.system.ranks[usize::from(t.0)];
         View {
-            status,
-            promise,
-            stopped: stopper(&self.system.owners, t, promise, status).is_some(),
-            key: key(rank, t, threads.job(t)),
-            pc: threads.regs(t).pc(),
+            status: self.system.status(t),
+            promise: self.system.promise(t),
+            stopped: self.system.is_stopped(t),
+            key: self.system.key(t),
+            pc: self.system.pc(t),
         }
     }
 

@@ -4,7 +4,7 @@ use Rattle.std.specs.List.Sorted.{IsStableByKey}
 use Rattle.std.specs.Ordering.{nat_cmp}
 use Rattle.std.proofs.lemmas.List.Sorted.{All-permutation, IsNonDecreasingBy-from_sort, answers_always, length_permutation}
 use Rattle.em_base.specs.declared.events.Timed.{Timed}
-use Rattle.em_kernel.specs.Possible.{IsPossible}
+use Rattle.em_system.specs.Possible.{IsPossible}
 use Rattle.em_kernel.proofs.EventsByTime.{in_order-sorted}
 use Rattle.em_kernel.proofs.TimerReleases.{delivered-early, delivered-few, delivered-is, delivered-possible}
 use Rattle.em_kernel.proofs.events.events.Goals as goal

@@ -3,7 +3,8 @@ use Rattle.std.specs.Option.{option_map}
 use Rattle.em_base.specs.Selection.{selected}
 use Rattle.em_ports.specs.Ports.{Places}
 use Rattle.em_gate.specs.Selecting.{scene_in}
-use Rattle.em_kernel.specs.Kept.{Kept, Stands, promises_of, tasks_of}
+use Rattle.em_kernel.specs.Kept.{Kept, Stands}
+use Rattle.em_system.specs.Held.{promises_of, tasks_of}
 use Rattle.em_kernel.specs.Step.{Step, due}
 use Rattle.em_kernel.proofs.NextStep.{step_delivers, step_runs, step_waits}
 use Rattle.em_kernel.proofs.kernel.Kernel.step.Goals as goal

@@ -1,16 +1,15 @@
-use Rattle.std.proofs.Common.{rules, ◌≡◌, ◌∙◌, ◌<◌, ◌≤◌, ◌+◌, suc, List, ◌∷◌, drop, length, sym, ap, subst, refl, arith}
+use Rattle.std.proofs.Common.{rules, drop_of_length-le, ◌≡◌, ◌∙◌, ◌<◌, ◌≤◌, ◌+◌, suc, List, ◌∷◌, drop, length, sym, ap, subst, refl, arith}
 use Rattle.std.proofs.Math.Seq.{drop-cons}
 use Rattle.em_base.specs.declared.events.Timed.{Timed}
 use Rattle.em_kernel.specs.Kept.{Kept, Stands}
-use Rattle.em_kernel.proofs.Ranks.{nothing_left}
-use Rattle.em_kernel.proofs.Sound.{sound_more}
+use Rattle.em_kernel.proofs.Kernels.{sound_more}
 use Rattle.em_kernel.proofs.Steps.{rests, idles}
 use Rattle.em_kernel.proofs.kernel.Kernel.wait.Goals as goal
 
 pub returns-then-self-len-clause-step : goal.returns-then-self-len-clause-step
 returns-then-self-len-clause-step c = λ s places st.
     let past : length c.self.inside.events.items ≤ c.self.inside.at = search rules in
-    let none = nothing_left c.self.inside.events.items c.self.inside.at past in
+    let none = drop_of_length-le c.self.inside.events.items past in
     rests c.args.self.now places s c.end.result (ap (λ k. k.left) (sym c.self.view_is) ∙ none) st (c.end.ensures.did s places st)
 
 pub invariant_of-self : goal.invariant_of-self
@@ -29,7 +28,6 @@ invariant_of-self c =
     record {
       charged = k.charged;
       cheap = k.cheap;
-      all = k.all;
       horizon = k.horizon;
       within = k.within;
       few = k.few;

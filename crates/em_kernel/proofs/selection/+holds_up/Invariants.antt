@@ -1,4 +1,0 @@
-use Rattle.em_kernel.proofs.selection.+holds_up.Given as goal
-
-abbrev pub decreases-holds_up : goal.decreases-holds_up
-decreases-holds_up l = l.depth

@@ -1,6 +1,0 @@
-use Rattle.em_kernel.specs.Held.{has_flag}
-use Rattle.em_kernel.proofs.Holding.{with_woken}
-use Rattle.em_kernel.proofs.system.System.wake.Goals as goal
-
-pub invariant_of-self : goal.invariant_of-self
-invariant_of-self c = with_woken (has_flag c.args.freed.now) c.wake.new.threads c.self.invariant c.wake.ensures

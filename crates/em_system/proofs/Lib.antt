@@ -1,0 +1,17 @@
+pub mod Scans
+pub mod Changes
+pub mod InPlace
+pub mod Holding
+pub mod Flags
+pub mod Stands
+pub mod Outcomes
+pub mod Accepted
+pub mod Lines
+pub mod CallSteps
+pub mod Scenes
+pub mod Carrying
+pub mod Ranks
+pub mod Sound
+pub mod Steps
+pub mod Started
+pub mod Parts

@@ -1,0 +1,185 @@
+-- What a step of the selected task asks of the tasks that are held, and what it leaves of it.
+use Rattle.std.proofs.Math.Path.{fun_ext}
+use Rattle.std.proofs.Common.{◌≡◌, ◌∙◌, ◌&&◌, Bool, slice_index_or, zero, suc, ℕ, ◌+◌, ◌<◌, ◌^◌, List, [], ◌∷◌, length, All, IfSome, IsSome, true, Option, None, Some, sym, ap, subst, refl, arith, ℤ}
+use Rattle.std.proofs.lemmas.List.{length-map}
+use Rattle.std.proofs.lemmas.List.Elements.{All-nil, All-cons, All-head, All-tail}
+use Rattle.em_base.specs.declared.apps.App.{App}
+use Rattle.em_base.specs.declared.ids.SemId.{SemId}
+use Rattle.em_base.specs.declared.ids.TaskId.{TaskId}
+use Rattle.em_base.specs.declared.jobs.Status.TheVariants.{Awake}
+use Rattle.em_base.specs.declared.tables.Table.{Table}
+use Rattle.em_base.specs.declared.jobs.Key.{Key}
+use Rattle.em_base.specs.declared.jobs.Status.{Status}
+use Rattle.em_base.specs.Selection.{Scene, is_active, is_awake, is_none, no_key, owner_at, owner_of, selected, status_at, stopper, stopper_at}
+use Rattle.em_hart.specs.declared.answers.Stepped.{Stepped}
+use Rattle.em_hart.specs.declared.answers.Stepped.TheVariants.{Call}
+use Rattle.em_hart.specs.Hart.{Memory}
+use Rattle.em_ports.specs.Ports.{Places}
+use Rattle.em_trace.specs.declared.lines.Line.{Line}
+use Rattle.em_gate.specs.declared.calls.Call.{Call as KernelCall}
+use Rattle.em_gate.specs.declared.calls.Call.TheVariants.{WaitJob, Acquire, Release, Out, Write, Read, Signal, Exit, Unknown}
+use Rattle.em_gate.specs.Effects.{after_outcome, line_by, with_core as task_with_core}
+use Rattle.em_gate.specs.Calls.{Known, call_of, refusal}
+use Rattle.em_gate.specs.Outcome.{Outcome, acquire_outcome, accepted, call_outcome, call_outcome_by}
+use Rattle.em_gate.specs.Selecting.{keys_of, plain_selected, scene_in, statuses_of}
+use Rattle.em_gate.specs.State.{Core, Plain, task_at}
+use Rattle.em_threads.specs.Threads.{Thread, changed, thread_at, with_core}
+use Rattle.em_system.specs.Held.{Held, Holds, promises_of, selected_of, tasks_of}
+use Rattle.em_system.specs.Promises.{promises_after}
+use Rattle.em_system.specs.Sound.{IsSound}
+use Rattle.em_system.specs.Taken.{stepped_of}
+use Rattle.em_system.proofs.Holding.{IsBare}
+use Rattle.em_system.proofs.Scenes.{scene_same, selected_awake, selected_inside}
+use Rattle.em_system.proofs.Sound.{sound_anywhere, sound_outcome}
+use Rattle.em_system.proofs.Stands.{promises_same, task_of_thread}
+
+-- a plain state for what is held and for ports
+abbrev pub plain_of : Held → Places → Plain
+plain_of held places = record {
+  tasks = tasks_of held.threads;
+  lasts = [];
+  arrivals = [];
+  owners = held.owners;
+  values = [];
+  ports = places;
+  shared = held.shared;
+  lines = [];
+}
+
+-- what is held stands for it
+pub plain_holds : (held : Held) (places : Places) → Holds held (plain_of held places) (promises_of held.threads)
+plain_holds held places = record { tasks = refl; promised = refl; owners = refl; shared = refl }
+
+-- what is sound of a task is sound of its thread
+pub sound_thread : (n : ℕ) (threads : List Thread) (t : ℕ) → All (IsSound n) (tasks_of threads) → t < length threads → IsSound n (thread_at threads t).task
+sound_thread n threads t sound h = subst (IsSound n) (task_of_thread threads t h) (sound_anywhere n (tasks_of threads) t sound)
+
+-- every job of a sound task comes early
+pub early_threads : (n : ℕ) (threads : List Thread) → All (IsSound n) (tasks_of threads) → (t : ℕ) → t < length threads
+    → IfSome (thread_at threads t).task.job (λ job. job.arrival < 2 ^ 63)
+early_threads n threads sound t h = (sound_thread n threads t sound h).early
+
+few_here : (n : ℕ) (threads : List Thread) → n < 2 ^ 63 → All (IsSound n) (tasks_of threads) → All (λ thread. thread.task.taken < 2 ^ 63) threads
+few_here n [] h sound = All-nil (λ thread. thread.task.taken < 2 ^ 63)
+few_here n (thread ∷ threads) h sound =
+    All-cons (λ thread. thread.task.taken < 2 ^ 63) thread threads
+    (omega (arith, h, (All-head (IsSound n) thread.task (tasks_of threads) sound).few))
+    (few_here n threads h (All-tail (IsSound n) thread.task (tasks_of threads) sound))
+
+-- a sound task was given few jobs
+pub few_jobs : (n : ℕ) (threads : List Thread) → n < 2 ^ 63 → All (IsSound n) (tasks_of threads) → All (λ thread. thread.task.taken < 2 ^ 63) threads
+few_jobs n threads h sound = few_here n threads h sound
+
+-- the tasks are sound after a step of one that is Awake
+pub sound_step : (held held' : Held) (places : Places) (t : TaskId) (o : Outcome) (n : ℕ) (promises : List (Option SemId))
+    → All (IsSound n) (tasks_of held.threads) → t.0 < length held.threads → (thread_at held.threads t.0).task.status ≡ Awake
+    → Holds held' (after_outcome o t (plain_of held places)) promises
+    → All (IsSound (n + 1)) (tasks_of held'.threads)
+sound_step held held' places t o n promises sound inside awake holds =
+    let there : t.0 < length (tasks_of held.threads) = subst (λ k. t.0 < k) (sym (length-map held.threads (λ thread. thread.task))) inside in
+    let active : is_active (task_at (tasks_of held.threads) t.0).status ≡ true =
+    ap (λ task. is_active task.status) (task_of_thread held.threads t.0 inside) ∙ ap is_active awake in
+    subst (All (IsSound (n + 1))) (sym holds.tasks) (sound_outcome o t (plain_of held places) n sound there active)
+
+-- an Awake task that is sound has a job
+pub awake_works : (n : ℕ) (threads : List Thread) (t : ℕ) → All (IsSound n) (tasks_of threads) → t < length threads
+    → (thread_at threads t).task.status ≡ Awake → IsSome (thread_at threads t).task.job
+awake_works n threads t sound inside awake = (sound_thread n threads t sound inside).working (ap is_active awake)
+
+-- an instruction leaves the selection as it is
+pub worked_selects : (held held' : Held) (core : Core) (shared : Memory) (t : ℕ)
+    → held' ≡ record held { threads = changed (with_core core) t held.threads; shared = shared } → t < length held.threads
+    → selected_of held' ≡ selected_of held
+worked_selects held held' core shared t e h =
+    let rows = held.app.table.tasks in
+    let threads = changed (with_core core) t held.threads in
+    ap (λ (k : Held). selected_of k) e
+    ∙ ap (λ promises. selected (scene_in rows (tasks_of threads) promises held.owners)) (promises_same (task_with_core core) t held.threads h)
+    ∙ ap (λ scene. selected scene) (scene_same rows core t held.threads (promises_of held.threads) held.owners h)
+
+-- the selected task of what is held is one of the tasks
+pub inside_of : (held : Held) (t : ℕ) → selected_of held ≡ Some t → t < length held.threads
+inside_of held t e = selected_inside held.app.table.tasks held.threads (promises_of held.threads) held.owners t e
+
+-- and Awake
+pub awake_of : (held : Held) (t : ℕ) → selected_of held ≡ Some t → (thread_at held.threads t).task.status ≡ Awake
+awake_of held t e = selected_awake held.app.table.tasks held.threads (promises_of held.threads) held.owners t e
+
+-- ---- what a step was
+
+acquire_stepped : (s : ℕ) (owner : Option TaskId) → Call ≡ stepped_of (acquire_outcome s owner)
+acquire_stepped s None = refl
+acquire_stepped s (Some u) = refl
+
+accepted_stepped : (table : Table) (owners : List (Option TaskId)) (call : KernelCall) → Call ≡ stepped_of (accepted table owners call)
+accepted_stepped table owners WaitJob = refl
+accepted_stepped table owners (Acquire s) = acquire_stepped s (owner_at owners s)
+accepted_stepped table owners (Release s) = refl
+accepted_stepped table owners (Out port word) = refl
+accepted_stepped table owners (Write m at) = refl
+accepted_stepped table owners (Read m at) = refl
+accepted_stepped table owners (Signal u word) = refl
+accepted_stepped table owners Exit = refl
+accepted_stepped table owners (Unknown number) = refl
+
+stepped_by : (table : Table) (owners : List (Option TaskId)) (call : KernelCall) (answer : Option ℤ) → Call ≡ stepped_of (call_outcome_by table owners call answer)
+stepped_by table owners call None = accepted_stepped table owners call
+stepped_by table owners call (Some code) = refl
+
+-- whatever a call comes to, its step is a call
+pub call_stepped : (table : Table) (t : ℕ) (known : Known) (owners : List (Option TaskId)) (core : Core) → Call ≡ stepped_of (call_outcome table t known owners core)
+call_stepped table t known owners core = stepped_by table owners (call_of core.registers) (refusal (call_of core.registers) table t known)
+
+-- what is held, the ports, what the step was and its line are those of an outcome
+abbrev pub Takes : Held → Places → Stepped → Option Line → App → TaskId → Plain → List (Option SemId) → Outcome → Type 0
+Takes held places stepped line app t p promises o =
+    Holds held (after_outcome o t p) (promises_after app o t.0 p promises)
+    × (places ≡ (after_outcome o t p).ports)
+    × (stepped ≡ stepped_of o)
+    × (line ≡ line_by o t (task_at p.tasks t.0) p)
+
+-- ---- the plain machine's selection
+
+stop_bare : (threads : List Thread) (owners : List (Option TaskId)) → All IsBare threads → (t : ℕ)
+    → stopper_at (statuses_of (tasks_of threads)) (promises_of threads) owners t ≡ stopper_at (statuses_of (tasks_of threads)) [] owners t
+stop_bare threads owners bare t = ap (λ promise. stopper owners t promise (status_at (statuses_of (tasks_of threads)) t)) (none_here threads bare t)
+  where
+    none_here : (ts : List Thread) → All IsBare ts → (i : ℕ) → slice_index_or (promises_of ts) i None ≡ slice_index_or [] i None
+    none_here [] b i = refl
+    none_here (thread ∷ ts) b zero = (All-head IsBare thread ts b).0
+    none_here (thread ∷ ts) b (suc i) = none_here ts (All-tail IsBare thread ts b) i
+
+abbrev scene_by : ℕ → ℕ → (ℕ → Key) → (ℕ → Bool) → (ℕ → Option SemId) → List Status → List (Option TaskId) → Scene
+scene_by count depth key active stop statuses owners = record {
+  count = count;
+  depth = depth;
+  key = key;
+  active = active;
+  ready = λ t. is_awake (status_at statuses t) && is_none (stop t);
+  next = λ t. owner_of owners (stop t);
+}
+
+-- without promises the plain machine selects the same
+pub bare_selects : (held : Held) (p : Plain) (promises : List (Option SemId)) → All IsBare held.threads → Holds held p promises
+    → selected_of held ≡ plain_selected held.app.table.tasks p
+bare_selects held p promises bare s =
+    let rows = held.app.table.tasks in
+    let statuses = statuses_of (tasks_of held.threads) in
+    let keys = keys_of rows (tasks_of held.threads) in
+    ap (λ stop. selected (scene_by (length statuses) (suc (length held.owners)) (λ t. slice_index_or keys t no_key) (λ t. is_active (status_at statuses t)) stop statuses held.owners))
+    (fun_ext (λ t. stop_bare held.threads held.owners bare t))
+    ∙ ap (λ tasks. selected (scene_in rows tasks [] held.owners)) s.tasks
+    ∙ ap (λ owners. selected (scene_in rows p.tasks [] owners)) s.owners
+
+-- an instruction leaves the plain machine's selection as it is
+pub worked_plainly : (held held' : Held) (p p' : Plain) (promises promises' : List (Option SemId)) (core : Core) (shared : Memory) (t : ℕ)
+    → held' ≡ record held { threads = changed (with_core core) t held.threads; shared = shared } → t < length held.threads
+    → Holds held p promises → Holds held' p' promises'
+    → plain_selected held.app.table.tasks p' ≡ plain_selected held.app.table.tasks p
+worked_plainly held held' p p' promises promises' core shared t e h s s' =
+    let rows = held.app.table.tasks in
+    ap (λ tasks. selected (scene_in rows tasks [] p'.owners)) (sym s'.tasks ∙ ap (λ (k : Held). tasks_of k.threads) e)
+    ∙ ap (λ owners. selected (scene_in rows (tasks_of (changed (with_core core) t held.threads)) [] owners)) (sym s'.owners ∙ ap (λ (k : Held). k.owners) e)
+    ∙ ap (λ scene. selected scene) (scene_same rows core t held.threads [] held.owners h)
+    ∙ ap (λ tasks. selected (scene_in rows tasks [] held.owners)) s.tasks
+    ∙ ap (λ owners. selected (scene_in rows p.tasks [] owners)) s.owners

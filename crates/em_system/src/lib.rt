@@ -1,0 +1,17 @@
+//! The tasks, the semaphores and the shared window of an application, and what events, instructions, calls and faults change of
+//! them.
+#![tactic(auto)]
+
+mod boot;
+mod calling;
+mod happening;
+mod knowing;
+mod owning;
+mod ranking;
+mod selection;
+mod showing;
+mod standing;
+mod stepping;
+mod system;
+
+pub use system::System;
