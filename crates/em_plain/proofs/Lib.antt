@@ -1,0 +1,4 @@
+pub mod Went
+pub mod Reached
+pub mod Advance
+pub mod Follow
