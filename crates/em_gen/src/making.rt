@@ -1,5 +1,5 @@
 //! The workload of a number.
-ghost use Rattle.std.specs.Prelude.{◌≡◌, IfOk};
+ghost use Rattle.std.specs.Prelude.{◌≡◌, ◌≤◌, IfOk, length};
 ghost use Rattle.em_gen.specs.Workload.{workload};
 
 use crate::draws::timers;
@@ -14,9 +14,10 @@ use std::alloc::Global;
 /// number to a port and frees the semaphore. A task's period, one of the 8 from 20,000 to 55,000 cycles that are 5,000 apart,
 /// and its rounds, from 1 to 40, are drawn from the number; the task in the background has 40 rounds.
 ///
-/// `n` may be any number. The answer is `Ok` with the bytes, and `NoMemory` only where memory runs out.
+/// `n` may be any number. The answer is `Ok` with the bytes, at most 65,536, and `NoMemory` only where memory runs out.
 pub fn make(alloc: Global, n: u32) -> Result<Vec<u8>, NoMemory>
-    ensures { IfOk result (λ bytes. bytes.items ≡ workload n) }
+    ensures made { IfOk result (λ bytes. bytes.items ≡ workload n) }
+    ensures few { IfOk result (λ bytes. length bytes.items ≤ 65536) }
 {
     let tasks = timers(alloc, n)?;
     let mut text = String::new(alloc);
