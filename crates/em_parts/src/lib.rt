@@ -5,8 +5,6 @@
 #[cfg(test)]
 mod answers;
 #[cfg(test)]
-mod plain;
-#[cfg(test)]
 mod steps;
 #[cfg(test)]
 mod workloads;

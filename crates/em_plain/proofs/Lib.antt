@@ -2,3 +2,4 @@ pub mod Went
 pub mod Reached
 pub mod Advance
 pub mod Follow
+pub mod Within

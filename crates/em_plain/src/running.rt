@@ -1,6 +1,7 @@
 //! The plain run of an application under a schedule.
 ghost use Rattle.std.specs.Prelude.{◌≡◌, ◌<◌, ◌≤◌, ◌⊎◌, ◌^◌, [], All, length, Err, IfOk, IfErr};
 ghost use Rattle.em_base.specs.Apps.{IsApp};
+ghost use Rattle.em_trace.specs.Schedules.{IsSchedule};
 ghost use Rattle.em_system.specs.Possible.{IsPossible};
 ghost use Rattle.em_plain.specs.Answers.{ArePartWay, IsFailOf, IsRunOf};
 ghost use Rattle.em_gate.specs.State.{Plain};
@@ -38,8 +39,8 @@ pub enum PlainFail {
     NoMemory,
 }
 
-/// Runs an application under a schedule on the plain machine, for an application without messages and without hints: each event
-/// comes after as many steps as it says, and the run ends after as many as the schedule says last. `count` is how many steps
+/// Runs an application under a schedule for its tasks on the plain machine, for an application without messages and without
+/// hints: each event comes after as many steps as it says, and the run ends after as many as the schedule says last. `count` is how many steps
 /// were taken, and `full` says that the run ended before, since the trace had 1,000,000 lines.
 ///
 /// `Misfit` exactly where a step is asked and no task is selected, with the number of steps that were taken. `NoMemory` where
@@ -53,10 +54,7 @@ pub fn run(
     requires app { IsApp app.now }
     requires messages { app.now.table.messages ≡ [] }
     requires hints { app.now.hints.hints ≡ [] }
-    requires counts { All (λ e. e.0 ≤ 100000000) schedule.now.events }
-    requires last { schedule.now.last ≤ 100000000 }
-    requires possible { let tasks = length app.now.table.tasks in
-        All (λ e. IsPossible tasks e.1) schedule.now.events }
+    requires schedule { IsSchedule (length app.now.table.tasks) schedule.now }
     ensures run { let seen = ⟦<Ports as Seen>⟧.seen_as in
         IfOk result (IsRunOf (plain_run app.now (seen ports.old) schedule.now)) }
     ensures misfit { let seen = ⟦<Ports as Seen>⟧.seen_as in

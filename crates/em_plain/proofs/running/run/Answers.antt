@@ -1,4 +1,4 @@
-use Rattle.std.proofs.Common.{◌≡◌, ◌∙◌, inr, Err, ℕ, map, sym, ap, subst}
+use Rattle.std.proofs.Common.{◌≡◌, ◌∙◌, inr, Err, ℕ, All, length, map, sym, ap, subst}
 use Rattle.std.specs.Option.{option_map}
 use Rattle.em_base.specs.declared.apps.App.{App}
 use Rattle.em_base.specs.declared.events.Schedule.{Schedule}
@@ -11,7 +11,9 @@ use Rattle.em_plain.specs.Reached.{HasGone, Reached}
 use Rattle.em_plain.specs.declared.running.PlainFail.TheVariants.{Misfit as MisfitFail}
 use Rattle.em_plain.specs.Answers.{ArePartWay, IsFailOf, IsRunOf}
 use Rattle.em_plain.specs.Runs.{Went, part_from, plain_run, run_from, state_of}
+use Rattle.em_system.specs.Possible.{IsPossible}
 use Rattle.em_plain.proofs.Follow.{no_part, whole_part}
+use Rattle.em_plain.proofs.Within.{counts_within, events_possible, last_within}
 use Rattle.em_plain.proofs.running.run.Goals as goal
 
 -- the run by an equal application
@@ -28,6 +30,17 @@ end_part : (app : App) (schedule : Schedule) (before after : Places) → after �
 end_part app schedule before after e =
     let (part, same) = whole_part app (boot app before) schedule in
     (part, e ∙ ap (λ went. (state_of went).ports) same)
+
+pub follow-requires-clause-counts : goal.follow-requires-clause-counts
+follow-requires-clause-counts g c = counts_within (length c.args.app.now.table.tasks) 0 c.args.schedule.now.events c.args.schedule.now.last c.requires.schedule
+
+pub follow-requires-clause-last : goal.follow-requires-clause-last
+follow-requires-clause-last g c = last_within (length c.args.app.now.table.tasks) 0 c.args.schedule.now.events c.args.schedule.now.last c.requires.schedule
+
+pub follow-requires-clause-possible : goal.follow-requires-clause-possible
+follow-requires-clause-possible g c =
+    subst (λ (a : App). All (λ e. IsPossible (length a.table.tasks) e.1) c.args.schedule.now.events) (sym c.in_ok-machine.ensures.app)
+    (events_possible (length c.args.app.now.table.tasks) 0 c.args.schedule.now.events c.args.schedule.now.last c.requires.schedule)
 
 pub returns-in_err-machine-clause-part : goal.returns-in_err-machine-clause-part
 returns-in_err-machine-clause-part g c =
