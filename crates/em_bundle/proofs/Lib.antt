@@ -2,6 +2,7 @@ pub mod TextLines
 pub mod Walked
 pub mod StatementsRead
 pub mod PartsCut
+pub mod CutSteps
 pub mod Loaded
 pub mod OneApplication
 pub mod OneRefusal

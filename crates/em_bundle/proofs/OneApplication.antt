@@ -28,12 +28,14 @@ use Rattle.em_asm.specs.Image.{IsImageOf, IsAssemblyRefused}
 use Rattle.em_table.specs.Faults.{refusal_of}
 use Rattle.em_table.specs.Tests.{fault_of, table_of}
 use Rattle.em_script.specs.Script.{IsScriptOf, IsScriptRefused}
-use Rattle.em_bundle.specs.Application.{IsApplication, IsApplicationOf, IsBundleRefused, IsRefusedOf, IsTabled, IsUntabled}
+use Rattle.em_trace.specs.ScheduleFaults.{IsScheduleRefused}
+use Rattle.em_trace.specs.Schedules.{IsScheduleOf}
+use Rattle.em_bundle.specs.Application.{IsApplicationFor, IsApplicationOf, IsBundleRefusedFor, IsRefusedOf, IsScheduled, IsTabled, IsUntabled}
 use Rattle.em_bundle.specs.Code.{AllSay, AreUnhinted, IsCodeOf, IsCodeRefused, IsHinted, IsMisread, hint_fault, line_of_wait, lines_in, number_in, statements_of}
 use Rattle.em_bundle.specs.Faults.{code_of}
 use Rattle.em_bundle.specs.Parts.{AreFirst, IsCut, IsShort, IsUncut, PartLines, headers, headers_in, is_header, line_at, parts_of, text_of}
 
--- what holds of the lines of assembly, of the images of statements and of scripts
+-- what holds of the lines of assembly, of the images of statements, of scripts and of schedules
 pub record Laws : Type 0 where
   pub line_or_fault : (text : List ℕ) → ((line : Line) × IsLine text line) ⊎ ((code : ℕ) × IsFaulty text code)
   pub one_line : (text : List ℕ) (one other : Line) → IsLine text one → IsLine text other → one ≡ other
@@ -54,6 +56,13 @@ pub record Laws : Type 0 where
       → IsScriptRefused first rows lines one → IsScriptRefused first rows lines other → one ≡ other
   pub script_not_refusal : (first : ℕ) (rows : List TaskRow) (lines : List (List ℕ)) (events : List Timed) (refusal : Refusal)
       → IsScriptOf rows lines events → IsScriptRefused first rows lines refusal → ⊥
+  pub schedule_or_refusal : (first tasks : ℕ) (lines : List (List ℕ))
+      → ((schedule : Schedule) × IsScheduleOf tasks lines schedule) ⊎ ((refusal : Refusal) × IsScheduleRefused first tasks lines refusal)
+  pub one_schedule : (tasks : ℕ) (lines : List (List ℕ)) (one other : Schedule) → IsScheduleOf tasks lines one → IsScheduleOf tasks lines other → one ≡ other
+  pub one_schedule_refusal : (first tasks : ℕ) (lines : List (List ℕ)) (one other : Refusal)
+      → IsScheduleRefused first tasks lines one → IsScheduleRefused first tasks lines other → one ≡ other
+  pub schedule_not_refusal : (first tasks : ℕ) (lines : List (List ℕ)) (schedule : Schedule) (refusal : Refusal)
+      → IsScheduleOf tasks lines schedule → IsScheduleRefused first tasks lines refusal → ⊥
 
 -- a test has one answer
 pub one_answer : (b : Bool) → b ≡ false → b ≡ true → ⊥
@@ -68,33 +77,34 @@ middle : (xs ys : List (List ℕ)) (x : List ℕ) (n : ℕ) → n ≡ length xs 
 middle xs ys x n h = grind (arith, common_steps)
 
 -- where the header lines are the first that are due, none is another
-pub not_misplaced : (texts : List (List ℕ)) (place count n : ℕ) → place < length texts → is_header (line_at texts place) ≡ true → AreFirst (take place texts) count
-    → bytes_eq (line_at texts place) (get_or headers count []) ≡ false → headers_in texts ≡ take n headers → ⊥
-not_misplaced texts place count n within header before other due =
+pub not_misplaced : (replay : Bool) (texts : List (List ℕ)) (place count n : ℕ) → place < length texts → is_header (line_at texts place) ≡ true → AreFirst replay (take place texts) count
+    → bytes_eq (line_at texts place) (get_or (headers replay) count []) ≡ false → headers_in texts ≡ take n (headers replay) → ⊥
+not_misplaced replay texts place count n within header before other due =
     let line = line_at texts place in
     let rest = drop (suc place) texts in
     let whole : texts ≡ take place texts ++ line ∷ rest = sym (take-append-drop place texts) ∙ ap (λ t. take place texts ++ t) (drop-cons texts place [] within) in
-    let found : take n headers ≡ take count headers ++ line ∷ headers_in rest
+    let found : take n (headers replay) ≡ take count (headers replay) ++ line ∷ headers_in rest
     = sym due ∙ (ap headers_in whole ∙ (filter-append is_header (take place texts) (line ∷ rest)
-    ∙ (ap (λ hs. hs ++ headers_in (line ∷ rest)) before.1 ∙ ap (λ hs. take count headers ++ hs) (header-first line rest header)))) in
-    let few : length (take count headers) ≡ count = length-take-le count headers before.0 in
+    ∙ (ap (λ hs. hs ++ headers_in (line ∷ rest)) before.1 ∙ ap (λ hs. take count (headers replay) ++ hs) (header-first line rest header)))) in
+    let few : length (take count (headers replay)) ≡ count = length-take-le count (headers replay) before.0 in
     let more : count < n
-    = omega (arith, ap length found, length-append (take count headers) (line ∷ headers_in rest), few, length-take n headers) in
-    let same : get_or headers count [] ≡ line
-    = sym (get_or-take n headers count [] more) ∙ (ap (λ hs. get_or hs count []) found ∙ middle (take count headers) (headers_in rest) line count (sym few)) in
-    one_answer (bytes_eq line (get_or headers count [])) other ((bytes_eq-Decides line (get_or headers count [])).1 (sym same))
+    = omega (arith, ap length found, length-append (take count (headers replay)) (line ∷ headers_in rest), few, length-take n (headers replay)) in
+    let same : get_or (headers replay) count [] ≡ line
+    = sym (get_or-take n (headers replay) count [] more) ∙ (ap (λ hs. get_or hs count []) found ∙ middle (take count (headers replay)) (headers_in rest) line count (sym few)) in
+    one_answer (bytes_eq line (get_or (headers replay) count [])) other ((bytes_eq-Decides line (get_or (headers replay) count [])).1 (sym same))
 
 -- where the header lines are all that are due, none is due at the end
-not_short : (texts : List (List ℕ)) (refusal : Refusal) → headers_in texts ≡ headers → IsShort texts refusal → ⊥
-not_short texts refusal due s =
-    let n : length headers ≡ s.count = ap length (sym due ∙ s.before.1) ∙ length-take-le s.count headers s.before.0 in
+not_short : (replay : Bool) (texts : List (List ℕ)) (refusal : Refusal) → headers_in texts ≡ headers replay → IsShort replay texts refusal → ⊥
+not_short replay texts refusal due s =
+    let n : length (headers replay) ≡ s.count = ap length (sym due ∙ s.before.1) ∙ length-take-le s.count (headers replay) s.before.0 in
     absurd (omega (arith, n, s.due))
 
 -- lines whose parts are in order aren't refused for it
-pub cut_not_uncut : (texts : List (List ℕ)) (refusal : Refusal) → IsCut texts → IsUncut texts refusal → ⊥
-cut_not_uncut texts refusal cut (inl h) = one_answer (is_header (line_at texts 0)) h.headless cut.headed
-cut_not_uncut texts refusal cut (inr (inl m)) = not_misplaced texts m.place m.count 3 m.within m.header m.before m.other cut.due
-cut_not_uncut texts refusal cut (inr (inr s)) = not_short texts refusal cut.due s
+pub cut_not_uncut : (replay : Bool) (texts : List (List ℕ)) (refusal : Refusal) → IsCut replay texts → IsUncut replay texts refusal → ⊥
+cut_not_uncut replay texts refusal cut (inl h) = one_answer (is_header (line_at texts 0)) h.headless cut.headed
+cut_not_uncut replay texts refusal cut (inr (inl m)) =
+    not_misplaced replay texts m.place m.count (length (headers replay)) m.within m.header m.before m.other (cut.due ∙ sym (take_all (length (headers replay)) (headers replay) (omega arith)))
+cut_not_uncut replay texts refusal cut (inr (inr s)) = not_short replay texts refusal cut.due s
 
 -- ---- the table
 
@@ -157,36 +167,59 @@ code_not_refusal laws first texts image refusal c (inr none) =
 pub unhinted_not_hinted : (waits : List Wait) (refusal : Refusal) → AreUnhinted waits → IsHinted waits refusal → ⊥
 unhinted_not_hinted waits refusal clear named = clear_or_refused (by_test hint_fault) code_of (line_of_wait waits) waits refusal clear named
 
+-- ---- the schedule
+
+-- the schedule part has one schedule, or none without replay
+one_scheduled : Laws → (replay : Bool) (parts : PartLines) (table : Table) (one other : Option Schedule) → IsScheduled replay parts table one → IsScheduled replay parts table other
+    → one ≡ other
+one_scheduled laws true parts table (Some one) (Some other) a b = ap Some (laws.one_schedule (length table.tasks) parts.schedule one other a b)
+one_scheduled laws true parts table (Some one) None a b = absurd b
+one_scheduled laws true parts table None other a b = absurd a
+one_scheduled laws false parts table one other a b = a ∙ sym b
+
+-- a schedule part that has a schedule isn't refused
+scheduled_not_refused : Laws → (replay : Bool) (parts : PartLines) (table : Table) (schedule : Option Schedule) (refusal : Refusal) → IsScheduled replay parts table schedule
+    → replay ≡ true → IsScheduleRefused (parts.schedule_line + 1) (length table.tasks) parts.schedule refusal → ⊥
+scheduled_not_refused laws true parts table (Some schedule) refusal s e r =
+    laws.schedule_not_refusal (parts.schedule_line + 1) (length table.tasks) parts.schedule schedule refusal s r
+scheduled_not_refused laws true parts table None refusal s e r = s
+scheduled_not_refused laws false parts table schedule refusal s e r = absurd (cc)
+
 -- ---- the whole
 
-parts_not_refused : Laws → (parts : PartLines) (app : App) (refusal : Refusal) → IsApplicationOf parts app → IsRefusedOf parts refusal → ⊥
-parts_not_refused laws parts app refusal a (inl u) = table_not_refusal parts app.table refusal a.table u
-parts_not_refused laws parts app refusal a (inr (inl m)) =
+parts_not_refused : Laws → (replay : Bool) (parts : PartLines) (app : App) (refusal : Refusal) → IsApplicationOf replay parts app → IsRefusedOf replay parts refusal → ⊥
+parts_not_refused laws replay parts app refusal a (inl u) = table_not_refusal parts app.table refusal a.table u
+parts_not_refused laws replay parts app refusal a (inr (inl m)) =
     let none : m.table.messages ≡ [] = ap (λ t. t.messages) (one_table parts m.table app.table m.tabled a.table) ∙ a.without_messages in
     absurd (omega (arith, ap length none, m.messages))
-parts_not_refused laws parts app refusal a (inr (inr (inl u))) = code_not_refusal laws (parts.code_line + 1) parts.code app.image refusal a.code u.refused
-parts_not_refused laws parts app refusal a (inr (inr (inr (inl e)))) =
+parts_not_refused laws replay parts app refusal a (inr (inr (inl u))) = code_not_refusal laws (parts.code_line + 1) parts.code app.image refusal a.code u.refused
+parts_not_refused laws replay parts app refusal a (inr (inr (inr (inl e)))) =
     let image = one_code laws (parts.code_line + 1) parts.code e.image app.image e.coded a.code in
     let table = one_table parts e.table app.table e.readable.tabled a.table in
     one_answer (have_entries app.image app.table.tasks)
     (ap (λ i. have_entries i app.table.tasks) (sym image) ∙ (ap (λ t. have_entries e.image t.tasks) (sym table) ∙ e.entries)) a.entries
-parts_not_refused laws parts app refusal a (inr (inr (inr (inr (inl h))))) =
+parts_not_refused laws replay parts app refusal a (inr (inr (inr (inr (inl h))))) =
     let image = one_code laws (parts.code_line + 1) parts.code h.image app.image h.assembled.coded a.code in
     unhinted_not_hinted app.image.waits refusal a.unhinted (subst (λ i. IsHinted i.waits refusal) image h.hinted)
-parts_not_refused laws parts app refusal a (inr (inr (inr (inr (inr s))))) =
+parts_not_refused laws replay parts app refusal a (inr (inr (inr (inr (inr (inl s)))))) =
     let table = one_table parts s.table app.table s.assembled.readable.tabled a.table in
     laws.script_not_refusal (parts.script_line + 1) app.table.tasks parts.script app.script refusal a.script
     (subst (λ t. IsScriptRefused (parts.script_line + 1) t.tasks parts.script refusal) table s.refused)
+parts_not_refused laws replay parts app refusal a (inr (inr (inr (inr (inr (inr s)))))) =
+    let table = one_table parts s.table app.table s.assembled.readable.tabled a.table in
+    scheduled_not_refused laws replay parts app.table app.schedule refusal a.schedule s.replayed
+    (subst (λ t. IsScheduleRefused (parts.schedule_line + 1) (length t.tasks) parts.schedule refusal) table s.refused)
 
 -- bytes that are UTF-8 are so to their end
 pub utf8_not_broken : (bytes : List ℕ) (n : ℕ) → IsValidUpTo bytes n → IsUtf8 bytes → ⊥
 utf8_not_broken bytes n h u = h.longest (length bytes) h.short (subst IsUtf8 (sym (take_all (length bytes) bytes (omega arith))) u)
 
 -- the bytes of an application aren't refused
-pub application_or_refused : Laws → (bytes : List ℕ) (app : App) (refusal : Refusal) → IsApplication bytes app → IsBundleRefused bytes refusal → ⊥
-application_or_refused laws bytes app refusal a (inl b) = utf8_not_broken bytes b.place b.broken a.utf8
-application_or_refused laws bytes app refusal a (inr (_, inl u)) = cut_not_uncut (lines bytes) refusal a.cut u
-application_or_refused laws bytes app refusal a (inr (_, inr r)) = parts_not_refused laws (parts_of (lines bytes)) app refusal a.stands r.1
+pub application_or_refused : Laws → (replay : Bool) (bytes : List ℕ) (app : App) (refusal : Refusal) → IsApplicationFor replay bytes app → IsBundleRefusedFor replay bytes refusal
+    → ⊥
+application_or_refused laws replay bytes app refusal a (inl b) = utf8_not_broken bytes b.place b.broken a.utf8
+application_or_refused laws replay bytes app refusal a (inr (_, inl u)) = cut_not_uncut replay (lines bytes) refusal a.cut u
+application_or_refused laws replay bytes app refusal a (inr (_, inr r)) = parts_not_refused laws replay (parts_of (lines bytes)) app refusal a.stands r.1
 
 same_app : {table table' : Table} {text text' : List ℕ} {line line' : ℕ} {image image' : Image} {hints hints' : HintMap} {script script' : List Timed} {schedule schedule' : Option Schedule}
     → table ≡ table' → text ≡ text' → line ≡ line' → image ≡ image' → hints ≡ hints' → script ≡ script' → schedule ≡ schedule'
@@ -198,15 +231,15 @@ same_app a b c d e f g = rw (a, b, c, d, e, f, g) refl
 same_hints : (one other : HintMap) → one.hints ≡ other.hints → one ≡ other
 same_hints one other e = ap (λ hints. (let m : HintMap = record { hints = hints } in m)) e
 
-parts_once : Laws → (parts : PartLines) (one other : App) → IsApplicationOf parts one → IsApplicationOf parts other → one ≡ other
-parts_once laws parts one other a b =
+parts_once : Laws → (replay : Bool) (parts : PartLines) (one other : App) → IsApplicationOf replay parts one → IsApplicationOf replay parts other → one ≡ other
+parts_once laws replay parts one other a b =
     let table = one_table parts one.table other.table a.table b.table in
     same_app table (a.code_text ∙ sym b.code_text) (a.code_line ∙ sym b.code_line)
     (one_code laws (parts.code_line + 1) parts.code one.image other.image a.code b.code)
     (same_hints one.hints other.hints (a.hints ∙ sym b.hints))
     (laws.one_script other.table.tasks parts.script one.script other.script (subst (λ t. IsScriptOf t.tasks parts.script one.script) table a.script) b.script)
-    (a.schedule ∙ sym b.schedule)
+    (one_scheduled laws replay parts other.table one.schedule other.schedule (subst (λ t. IsScheduled replay parts t one.schedule) table a.schedule) b.schedule)
 
 -- bytes are those of one application
-pub one_application : Laws → (bytes : List ℕ) (one other : App) → IsApplication bytes one → IsApplication bytes other → one ≡ other
-one_application laws bytes one other a b = parts_once laws (parts_of (lines bytes)) one other a.stands b.stands
+pub one_application : Laws → (replay : Bool) (bytes : List ℕ) (one other : App) → IsApplicationFor replay bytes one → IsApplicationFor replay bytes other → one ≡ other
+one_application laws replay bytes one other a b = parts_once laws replay (parts_of (lines bytes)) one other a.stands b.stands

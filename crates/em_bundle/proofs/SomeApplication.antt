@@ -12,6 +12,8 @@ use Rattle.toml.specs.Data.{Members}
 use Rattle.toml.specs.Parse.{parse_document}
 use Rattle.em_base.proofs.FirstFaults.{clear_or_first, found_or_none}
 use Rattle.em_base.specs.declared.apps.App.{App}
+use Rattle.em_base.specs.declared.events.Schedule.{Schedule}
+use Rattle.em_base.specs.declared.events.Timed.{Timed}
 use Rattle.em_base.specs.declared.images.Image.{Image}
 use Rattle.em_base.specs.declared.images.Wait.{Wait}
 use Rattle.em_base.specs.declared.refusals.Refusal.{Refusal}
@@ -25,8 +27,9 @@ use Rattle.em_table.specs.declared.faults.Fault.{Fault as TableFault}
 use Rattle.em_table.specs.declared.faults.Fault.TheVariants.{NoToml}
 use Rattle.em_table.specs.Faults.{refusal_of}
 use Rattle.em_table.specs.Tests.{fault_in, fault_of, table_of}
+use Rattle.em_trace.specs.ScheduleFaults.{IsScheduleRefused}
 use Rattle.em_bundle.specs.declared.faults.Fault.TheVariants.{MissingEntry, NotSupported, NotUtf8}
-use Rattle.em_bundle.specs.Application.{IsApplication, IsApplicationOf, IsAssembled, IsBroken, IsCoded, IsReadable, IsBundleRefused, IsRefusedOf, IsTabled, IsUntabled}
+use Rattle.em_bundle.specs.Application.{IsApplicationFor, IsApplicationOf, IsAssembled, IsBroken, IsCoded, IsReadable, IsBundleRefusedFor, IsRefusedOf, IsScheduled, IsScripted, IsTabled, IsUntabled}
 use Rattle.em_bundle.specs.Code.{AllSay, AreUnhinted, IsCodeOf, IsCodeRefused, IsFaultyText, IsHinted, hint_fault, line_of_wait, lines_in, number_in, statements_of}
 use Rattle.em_bundle.specs.Faults.{code_of, refusal_at}
 use Rattle.em_bundle.specs.Parts.{PartLines, parts_of, text_of}
@@ -136,77 +139,113 @@ unhinted_or_hinted waits = elim (clear_or_first (by_test hint_fault) waits (leng
   )
 ]
 
+-- ---- the schedule
+
+-- with replay the schedule part has a schedule or a refusal, and without there is no schedule
+scheduled_or_refused : Laws → (replay : Bool) (parts : PartLines) (table : Table)
+    → ((schedule : Option Schedule) × IsScheduled replay parts table schedule)
+    ⊎ ((refusal : Refusal) × (replay ≡ true) × IsScheduleRefused (parts.schedule_line + 1) (length table.tasks) parts.schedule refusal)
+scheduled_or_refused laws false parts table = inl (None, refl)
+scheduled_or_refused laws true parts table = elim (laws.schedule_or_refusal (parts.schedule_line + 1) (length table.tasks) parts.schedule) [
+  | inl schedule ↦ inl (Some schedule.0, schedule.1)
+  | inr s ↦ inr (s.0, refl, s.1)
+]
+
 -- ---- the whole
 
 -- parts are those of an application or have a refusal
-parts_or_refusal : Laws → (parts : PartLines) → ((app : App) × IsApplicationOf parts app) ⊎ ((refusal : Refusal) × IsRefusedOf parts refusal)
-parts_or_refusal laws parts = elim (table_or_refusal parts) [
+parts_or_refusal : Laws → (replay : Bool) (parts : PartLines) → ((app : App) × IsApplicationOf replay parts app) ⊎ ((refusal : Refusal) × IsRefusedOf replay parts refusal)
+parts_or_refusal laws replay parts = elim (table_or_refusal parts) [
   | inl table ↦ by_messages table.0 table.1 table.0.messages refl
   | inr u ↦ inr (u.0, inl u.1)
 ]
   where
-    by_script : (table : Table) (image : Image) → IsAssembled parts table image → AreUnhinted image.waits
-        → ((app : App) × IsApplicationOf parts app) ⊎ ((refusal : Refusal) × IsRefusedOf parts refusal)
-    by_script table image assembled unhinted = elim (laws.script_or_refusal (parts.script_line + 1) table.tasks parts.script) [
-      | inl events ↦ inl (
-        record {
+    answered : (table : Table) (image : Image) (events : List Timed) (schedule : Option Schedule) → IsAssembled parts table image → AreUnhinted image.waits
+        → IsScripted parts table events → IsScheduled replay parts table schedule → (app : App) × IsApplicationOf replay parts app
+    answered table image events schedule assembled unhinted scripted scheduled = (
+      record {
+        table = table;
+        code_text = text_of parts.code;
+        code_line = parts.code_line;
+        image = image;
+        hints = record { hints = [] };
+        script = events;
+        schedule = schedule;
+      },
+      record {
+        table = assembled.readable.tabled;
+        without_messages = assembled.readable.without_messages;
+        code = assembled.coded;
+        entries = assembled.entries;
+        unhinted = unhinted;
+        script = scripted;
+        code_text = refl;
+        code_line = refl;
+        hints = refl;
+        schedule = scheduled;
+      },
+    )
+
+    by_schedule : (table : Table) (image : Image) (events : List Timed) → IsAssembled parts table image → AreUnhinted image.waits → IsScripted parts table events
+        → ((app : App) × IsApplicationOf replay parts app) ⊎ ((refusal : Refusal) × IsRefusedOf replay parts refusal)
+    by_schedule table image events assembled unhinted scripted = elim (scheduled_or_refused laws replay parts table) [
+      | inl schedule ↦ inl (answered table image events schedule.0 assembled unhinted scripted schedule.1)
+      | inr s ↦ inr (
+        s.0,
+        inr (inr (inr (inr (inr (inr record {
+          replayed = s.1;
           table = table;
-          code_text = text_of parts.code;
-          code_line = parts.code_line;
           image = image;
-          hints = record { hints = [] };
-          script = events.0;
-          schedule = None;
-        },
-        record {
-          table = assembled.readable.tabled;
-          without_messages = assembled.readable.without_messages;
-          code = assembled.coded;
-          entries = assembled.entries;
+          assembled = assembled;
           unhinted = unhinted;
-          script = events.1;
-          code_text = refl;
-          code_line = refl;
-          hints = refl;
-          schedule = refl;
-        },
+          events = events;
+          scripted = scripted;
+          refused = s.2;
+        }))))),
       )
-      | inr s ↦ inr (s.0, inr (inr (inr (inr (inr record { table = table; image = image; assembled = assembled; unhinted = unhinted; refused = s.1 })))))
+    ]
+
+    by_script : (table : Table) (image : Image) → IsAssembled parts table image → AreUnhinted image.waits
+        → ((app : App) × IsApplicationOf replay parts app) ⊎ ((refusal : Refusal) × IsRefusedOf replay parts refusal)
+    by_script table image assembled unhinted = elim (laws.script_or_refusal (parts.script_line + 1) table.tasks parts.script) [
+      | inl events ↦ by_schedule table image events.0 assembled unhinted events.1
+      | inr s ↦ inr (s.0, inr (inr (inr (inr (inr (inl record { table = table; image = image; assembled = assembled; unhinted = unhinted; refused = s.1 }))))))
     ]
 
     by_hints : (table : Table) (image : Image) → IsAssembled parts table image
-        → ((app : App) × IsApplicationOf parts app) ⊎ ((refusal : Refusal) × IsRefusedOf parts refusal)
+        → ((app : App) × IsApplicationOf replay parts app) ⊎ ((refusal : Refusal) × IsRefusedOf replay parts refusal)
     by_hints table image assembled = elim (unhinted_or_hinted image.waits) [
       | inl unhinted ↦ by_script table image assembled unhinted
       | inr h ↦ inr (h.0, inr (inr (inr (inr (inl record { table = table; image = image; assembled = assembled; hinted = h.1 })))))
     ]
 
     by_entries : (table : Table) (image : Image) → IsReadable parts table → IsCoded parts image → (b : Bool) → have_entries image table.tasks ≡ b
-        → ((app : App) × IsApplicationOf parts app) ⊎ ((refusal : Refusal) × IsRefusedOf parts refusal)
+        → ((app : App) × IsApplicationOf replay parts app) ⊎ ((refusal : Refusal) × IsRefusedOf replay parts refusal)
     by_entries table image readable coded true e = by_hints table image record { readable = readable; coded = coded; entries = e }
     by_entries table image readable coded false e = inr (
       refusal_at MissingEntry parts.code_line,
       inr (inr (inr (inl record { table = table; readable = readable; image = image; coded = coded; entries = e; named = refl }))),
     )
 
-    by_code : (table : Table) → IsReadable parts table → ((app : App) × IsApplicationOf parts app) ⊎ ((refusal : Refusal) × IsRefusedOf parts refusal)
+    by_code : (table : Table) → IsReadable parts table → ((app : App) × IsApplicationOf replay parts app) ⊎ ((refusal : Refusal) × IsRefusedOf replay parts refusal)
     by_code table readable = elim (code_or_refusal laws (parts.code_line + 1) parts.code) [
       | inl image ↦ by_entries table image.0 readable image.1 (have_entries image.0 table.tasks) refl
       | inr u ↦ inr (u.0, inr (inr (inl record { table = table; readable = readable; refused = u.1 })))
     ]
 
     by_messages : (table : Table) → IsTabled parts table → (messages : List MsgRow) → table.messages ≡ messages
-        → ((app : App) × IsApplicationOf parts app) ⊎ ((refusal : Refusal) × IsRefusedOf parts refusal)
+        → ((app : App) × IsApplicationOf replay parts app) ⊎ ((refusal : Refusal) × IsRefusedOf replay parts refusal)
     by_messages table tabled [] e = by_code table record { tabled = tabled; without_messages = e }
     by_messages table tabled (message ∷ messages) e =
         let some : 0 < length table.messages = omega (arith, ap length e) in
         inr (refusal_at NotSupported 1, inr (inl record { table = table; tabled = tabled; messages = some; named = refl }))
 
 -- any bytes are those of an application or have a refusal
-pub some_application : Laws → (bytes : List ℕ) → ((app : App) × IsApplication bytes app) ⊎ ((refusal : Refusal) × IsBundleRefused bytes refusal)
-some_application laws bytes = elim (utf8_or_broken bytes) [
-  | inl utf8 ↦ elim (cut_or_uncut (lines bytes)) [
-    | inl cut ↦ elim (parts_or_refusal laws (parts_of (lines bytes))) [
+pub some_application : Laws → (replay : Bool) (bytes : List ℕ)
+    → ((app : App) × IsApplicationFor replay bytes app) ⊎ ((refusal : Refusal) × IsBundleRefusedFor replay bytes refusal)
+some_application laws replay bytes = elim (utf8_or_broken bytes) [
+  | inl utf8 ↦ elim (cut_or_uncut replay (lines bytes)) [
+    | inl cut ↦ elim (parts_or_refusal laws replay (parts_of (lines bytes))) [
       | inl app ↦ inl (app.0, record { utf8 = utf8; cut = cut; stands = app.1 })
       | inr r ↦ inr (r.0, inr (utf8, inr (cut, r.1)))
     ]

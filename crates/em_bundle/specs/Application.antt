@@ -1,11 +1,12 @@
 -- The application that the bytes of a bundle stand for, or the first thing that is wrong with them: this project's own.
-use Rattle.std.specs.Prelude.{◌≡◌, ℕ, ◌+◌, ◌<◌, ◌⊎◌, ⊤, true, false, nat_eq, List, [], length, take, count_by, Some, None}
+use Rattle.std.specs.Prelude.{◌≡◌, ℕ, ◌+◌, ◌<◌, ◌⊎◌, ⊤, Bool, true, false, nat_eq, List, [], length, take, count_by, Option, Some, None}
 use Rattle.std.specs.Option.{option_map}
 use Rattle.std.specs.Str.{IsUtf8, IsValidUpTo}
 use Rattle.std.specs.Str.Lines.{lines}
 use Rattle.toml.specs.Data.{Members}
 use Rattle.toml.specs.Parse.{parse_document}
 use Rattle.em_base.specs.declared.apps.App.{App}
+use Rattle.em_base.specs.declared.events.Schedule.{Schedule}
 use Rattle.em_base.specs.declared.events.Timed.{Timed}
 use Rattle.em_base.specs.declared.images.Image.{Image}
 use Rattle.em_base.specs.declared.refusals.Fail.{Fail}
@@ -16,6 +17,8 @@ use Rattle.em_base.specs.Apps.{have_entries}
 use Rattle.em_table.specs.Faults.{refusal_of}
 use Rattle.em_table.specs.Tests.{fault_in, fault_of, table_of}
 use Rattle.em_script.specs.Script.{IsScriptOf, IsScriptRefused}
+use Rattle.em_trace.specs.ScheduleFaults.{IsScheduleRefused}
+use Rattle.em_trace.specs.Schedules.{IsScheduleOf}
 use Rattle.em_bundle.specs.declared.faults.Fault.TheVariants.{MissingEntry, NotSupported, NotUtf8}
 use Rattle.em_bundle.specs.Code.{AreUnhinted, IsCodeOf, IsCodeRefused, IsHinted}
 use Rattle.em_bundle.specs.Faults.{refusal_at}
@@ -38,10 +41,16 @@ IsCoded parts image = IsCodeOf (parts.code_line + 1) parts.code image
 abbrev pub IsScripted : PartLines → Table → List Timed → Type 0
 IsScripted parts table events = IsScriptOf table.tasks parts.script events
 
+-- with replay there is a schedule, and the schedule part is this one; without there is none
+abbrev pub IsScheduled : Bool → PartLines → Table → Option Schedule → Type 0
+IsScheduled true parts table (Some schedule) = IsScheduleOf (length table.tasks) parts.schedule schedule
+IsScheduled true parts table None = ⊥
+IsScheduled false parts table schedule = schedule ≡ None
+
 -- ---- the application
 
 -- the parts are those of this application
-pub record IsApplicationOf (parts : PartLines) (app : App) : Type 0 where
+pub record IsApplicationOf (replay : Bool) (parts : PartLines) (app : App) : Type 0 where
   pub table : IsTabled parts app.table
   pub without_messages : app.table.messages ≡ []
   pub code : IsCoded parts app.image
@@ -51,13 +60,17 @@ pub record IsApplicationOf (parts : PartLines) (app : App) : Type 0 where
   pub code_text : app.code_text ≡ text_of parts.code
   pub code_line : app.code_line ≡ parts.code_line
   pub hints : app.hints.hints ≡ []
-  pub schedule : app.schedule ≡ None
+  pub schedule : IsScheduled replay parts app.table app.schedule
 
--- the bytes are those of this application
-pub record IsApplication (bytes : List ℕ) (app : App) : Type 0 where
+-- the bytes are those of this application, with a schedule where it is to be replayed
+pub record IsApplicationFor (replay : Bool) (bytes : List ℕ) (app : App) : Type 0 where
   pub utf8 : IsUtf8 bytes
-  pub cut : IsCut (lines bytes)
-  pub stands : IsApplicationOf (parts_of (lines bytes)) app
+  pub cut : IsCut replay (lines bytes)
+  pub stands : IsApplicationOf replay (parts_of (lines bytes)) app
+
+-- the same where it isn't to be replayed
+abbrev pub IsApplication : List ℕ → App → Type 0
+IsApplication bytes app = IsApplicationFor false bytes app
 
 -- ---- the refusals of parts, each where nothing that stands above it is refused
 
@@ -113,15 +126,27 @@ pub record IsUnscripted (parts : PartLines) (refusal : Refusal) : Type 0 where
   pub unhinted : AreUnhinted image.waits
   pub refused : IsScriptRefused (parts.script_line + 1) table.tasks parts.script refusal
 
+-- with replay, the schedule part is refused
+pub record IsUnscheduled (replay : Bool) (parts : PartLines) (refusal : Refusal) : Type 0 where
+  pub replayed : replay ≡ true
+  pub table : Table
+  pub image : Image
+  pub assembled : IsAssembled parts table image
+  pub unhinted : AreUnhinted image.waits
+  pub events : List Timed
+  pub scripted : IsScripted parts table events
+  pub refused : IsScheduleRefused (parts.schedule_line + 1) (length table.tasks) parts.schedule refusal
+
 -- the refusal of parts
-abbrev pub IsRefusedOf : PartLines → Refusal → Type 0
-IsRefusedOf parts refusal =
+abbrev pub IsRefusedOf : Bool → PartLines → Refusal → Type 0
+IsRefusedOf replay parts refusal =
     IsUntabled parts refusal
     ⊎ (HasMessages parts refusal
     ⊎ (IsUncoded parts refusal
     ⊎ (HasNoEntry parts refusal
     ⊎ (HasHint parts refusal
-    ⊎ IsUnscripted parts refusal))))
+    ⊎ (IsUnscripted parts refusal
+    ⊎ IsUnscheduled replay parts refusal)))))
 
 -- ---- the refusals of bytes
 
@@ -132,23 +157,28 @@ pub record IsBroken (bytes : List ℕ) (refusal : Refusal) : Type 0 where
   pub named : refusal ≡ refusal_at NotUtf8 (count_by (λ byte. nat_eq byte 10) (take place bytes) + 1)
 
 -- the refusal of lines: their parts aren't in order, or a part is refused
-abbrev pub IsRefusedLines : List (List ℕ) → Refusal → Type 0
-IsRefusedLines lines refusal = IsUncut lines refusal ⊎ (IsCut lines × IsRefusedOf (parts_of lines) refusal)
+abbrev pub IsRefusedLines : Bool → List (List ℕ) → Refusal → Type 0
+IsRefusedLines replay lines refusal =
+    IsUncut replay lines refusal ⊎ (IsCut replay lines × IsRefusedOf replay (parts_of lines) refusal)
 
--- the refusal of the bytes of a bundle
+-- the refusal of the bytes of a bundle, which is to have a schedule where it is to be replayed
+abbrev pub IsBundleRefusedFor : Bool → List ℕ → Refusal → Type 0
+IsBundleRefusedFor replay bytes refusal = IsBroken bytes refusal ⊎ (IsUtf8 bytes × IsRefusedLines replay (lines bytes) refusal)
+
+-- the same where it isn't to be replayed
 abbrev pub IsBundleRefused : List ℕ → Refusal → Type 0
-IsBundleRefused bytes refusal = IsBroken bytes refusal ⊎ (IsUtf8 bytes × IsRefusedLines (lines bytes) refusal)
+IsBundleRefused bytes refusal = IsBundleRefusedFor false bytes refusal
 
 -- `NoMemory` may be answered at any time
-abbrev pub IsBundleFail : List ℕ → Fail → Type 0
-IsBundleFail bytes (Refused refusal) = IsBundleRefused bytes refusal
-IsBundleFail bytes NoMemory = ⊤
+abbrev pub IsBundleFail : Bool → List ℕ → Fail → Type 0
+IsBundleFail replay bytes (Refused refusal) = IsBundleRefusedFor replay bytes refusal
+IsBundleFail replay bytes NoMemory = ⊤
 
 -- ---- inside the crate: what the readers of parts answer
 
-abbrev pub IsPartsFail : PartLines → Fail → Type 0
-IsPartsFail parts (Refused refusal) = IsRefusedOf parts refusal
-IsPartsFail parts NoMemory = ⊤
+abbrev pub IsPartsFail : Bool → PartLines → Fail → Type 0
+IsPartsFail replay parts (Refused refusal) = IsRefusedOf replay parts refusal
+IsPartsFail replay parts NoMemory = ⊤
 
 abbrev pub IsTableFail : PartLines → Fail → Type 0
 IsTableFail parts (Refused refusal) = IsUntabled parts refusal ⊎ HasMessages parts refusal

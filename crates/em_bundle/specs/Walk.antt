@@ -1,5 +1,5 @@
 -- A text walked line by line, and cut into parts. These are used inside the crate alone.
-use Rattle.std.specs.Prelude.{◌≡◌, ◌⊎◌, ℕ, ⊤, true, false, not, List, [], ◌∷◌, ◌++◌, map}
+use Rattle.std.specs.Prelude.{◌≡◌, ◌⊎◌, ℕ, ⊤, Bool, true, false, not, List, [], ◌∷◌, ◌++◌, map}
 use Rattle.std.specs.List.{list_all}
 use Rattle.std.specs.Str.{bytes_eq}
 use Rattle.std.specs.Str.Lines.{lines}
@@ -12,7 +12,7 @@ use Rattle.em_bundle.specs.declared.faults.Fault.TheVariants.{MissingPart, Mispl
 use Rattle.em_bundle.specs.declared.parts.Parts.{Parts}
 use Rattle.em_bundle.specs.Code.{AllSay, IsCodeRefused, IsMisread, lines_in, statements_of}
 use Rattle.em_bundle.specs.Faults.{refusal_at}
-use Rattle.em_bundle.specs.Parts.{PartLines, is_header, line_at}
+use Rattle.em_bundle.specs.Parts.{PartLines, is_header, line_at, schedule_header}
 
 -- what follows the bytes is cut into lines of its own
 abbrev pub IsClosed : List ℕ → Type 0
@@ -61,6 +61,16 @@ IsUnparted header number texts refusal =
     ⊎ ((line : List ℕ) × (rest : List (List ℕ)) × (texts ≡ line ∷ rest) × (bytes_eq line header ≡ false)
     × (refusal ≡ refusal_at MisplacedHeader number))
 
+-- with replay the lines are the schedule's header, the lines of its part and the rest; without there is no part, and all are the rest
+abbrev pub IsLastParted : Bool → List (List ℕ) → List (List ℕ) → List (List ℕ) → Type 0
+IsLastParted true texts part rest = IsParted schedule_header texts part rest
+IsLastParted false texts part rest = (part ≡ []) × (rest ≡ texts)
+
+-- with replay the schedule's header is the one that is missing, or another stands there
+abbrev pub IsLastUnparted : Bool → ℕ → List (List ℕ) → Refusal → Type 0
+IsLastUnparted true number texts refusal = IsUnparted schedule_header number texts refusal
+IsLastUnparted false number texts refusal = ⊥
+
 -- the lines of the parts
 abbrev pub part_lines : Parts → PartLines
 part_lines parts = record {
@@ -69,6 +79,8 @@ part_lines parts = record {
   code_line = parts.code_line;
   script = lines parts.script.now;
   script_line = parts.script_line;
+  schedule = lines parts.schedule.now;
+  schedule_line = parts.schedule_line;
 }
 
 -- ---- code

@@ -1,25 +1,29 @@
 //! Laws of bundles.
-ghost use Rattle.std.specs.Prelude.{◌≡◌, ◌⊎◌, ℕ, List};
+ghost use Rattle.std.specs.Prelude.{◌≡◌, ◌⊎◌, ℕ, Bool, List};
 ghost use Rattle.em_base.specs.declared.apps.App.{App};
 ghost use Rattle.em_base.specs.declared.refusals.Refusal.{Refusal};
-ghost use Rattle.em_bundle.specs.Application.{IsApplication, IsBundleRefused};
+ghost use Rattle.em_bundle.specs.Application.{IsApplicationFor, IsBundleRefusedFor};
 
 use em_asm::one_image;
 use em_asm_read::one_meaning;
 use em_script::one_script;
+use em_trace::one_schedule;
 
-/// Bytes stand for one application or are refused with one refusal, and never both.
+/// With replay, and without, bytes stand for one application or are refused with one refusal, and never both.
 pub fn one_application()
-    ensures some { (bytes : List ℕ)
-        → ((app : App) × IsApplication bytes app) ⊎ ((refusal : Refusal) × IsBundleRefused bytes refusal) }
-    ensures app { (bytes : List ℕ) (one other : App)
-        → IsApplication bytes one → IsApplication bytes other → one ≡ other }
-    ensures refusal { (bytes : List ℕ) (one other : Refusal)
-        → IsBundleRefused bytes one → IsBundleRefused bytes other → one ≡ other }
-    ensures either { (bytes : List ℕ) (app : App) (refusal : Refusal)
-        → IsApplication bytes app → IsBundleRefused bytes refusal → ⊥ }
+    ensures some { (replay : Bool) (bytes : List ℕ)
+        → ((app : App) × IsApplicationFor replay bytes app)
+        ⊎ ((refusal : Refusal) × IsBundleRefusedFor replay bytes refusal) }
+    ensures app { (replay : Bool) (bytes : List ℕ) (one other : App)
+        → IsApplicationFor replay bytes one → IsApplicationFor replay bytes other → one ≡ other }
+    ensures refusal { (replay : Bool) (bytes : List ℕ) (one other : Refusal)
+        → IsBundleRefusedFor replay bytes one → IsBundleRefusedFor replay bytes other
+        → one ≡ other }
+    ensures either { (replay : Bool) (bytes : List ℕ) (app : App) (refusal : Refusal)
+        → IsApplicationFor replay bytes app → IsBundleRefusedFor replay bytes refusal → ⊥ }
 {
     one_meaning();
     one_image();
     one_script();
+    one_schedule();
 }

@@ -1,6 +1,6 @@
 //! The application that the bytes of a bundle stand for.
-ghost use Rattle.std.specs.Prelude.{◌≡◌, ◌⊎◌, ◌<◌, ◌≤◌, ◌^◌, ◌+◌, [], false, true, length};
-ghost use Rattle.std.specs.Prelude.{IfErr, IfOk, MatchResult, string_bytes};
+ghost use Rattle.std.specs.Prelude.{◌≡◌, ◌⊎◌, ◌<◌, ◌≤◌, ◌^◌, ◌+◌, [], true, is_some, length};
+ghost use Rattle.std.specs.Prelude.{IfErr, IfOk, IfSome, MatchResult, string_bytes};
 ghost use Rattle.std.specs.Str.Lines.{lines};
 ghost use Rattle.em_base.specs.declared.apps.App.{App as AppValue};
 ghost use Rattle.em_base.specs.declared.refusals.Refusal.{Refusal as RefusalValue};
@@ -9,8 +9,11 @@ ghost use Rattle.em_base.specs.Apps.{IsApp};
 ghost use Rattle.em_base.specs.Events.{AreEarly, IsScript};
 ghost use Rattle.em_base.specs.Images.{IsWhole};
 ghost use Rattle.em_base.specs.Tables.{IsTable};
-ghost use Rattle.em_bundle.specs.Application.{IsApplication, IsApplicationOf, IsCoded, IsBundleFail};
-ghost use Rattle.em_bundle.specs.Application.{IsPartsFail, IsImageFail, IsBundleRefused, IsTableFail, IsTabled};
+ghost use Rattle.em_trace.specs.ScheduleFaults.{IsScheduleFail};
+ghost use Rattle.em_trace.specs.Schedules.{IsSchedule};
+ghost use Rattle.em_bundle.specs.Application.{IsApplicationFor, IsApplicationOf, IsBundleFail};
+ghost use Rattle.em_bundle.specs.Application.{IsBundleRefusedFor, IsCoded, IsImageFail, IsPartsFail};
+ghost use Rattle.em_bundle.specs.Application.{IsScheduled, IsTableFail, IsTabled};
 ghost use Rattle.em_bundle.specs.Code.{AreUnhinted};
 ghost use Rattle.em_bundle.specs.Walk.{part_lines};
 
@@ -19,9 +22,10 @@ use crate::faults::Fault;
 use crate::laws::one_application;
 use crate::parts::{Parts, cut};
 use crate::texts::{line_of, with_line_feeds};
-use em_base::{App, Fail, HintMap, Image, Items, Name, Table};
+use em_base::{App, Fail, HintMap, Image, Items, Name, Schedule, Table};
 use em_script::read_script;
 use em_table::read_table;
+use em_trace::read_schedule;
 use std::alloc::Global;
 use std::str;
 
@@ -60,19 +64,40 @@ fn load_code(alloc: Global, parts: &Parts<'_>, table: &Table) -> Result<Image, F
     }
 }
 
+/// The schedule of a bundle for the tasks of its table, where it is to be replayed.
+fn load_schedule(
+    alloc: Global,
+    parts: &Parts<'_>,
+    table: &Table,
+    replay: bool,
+) -> Result<Option<Schedule>, Fail>
+    requires { parts.now.schedule_line + 1 + length (lines parts.now.schedule.now) < 2 ^ 32 }
+    ensures schedule { IfOk result (IsScheduled replay (part_lines parts.now) table.now) }
+    ensures refused { IfErr result (λ fail. (replay ≡ true) × IsScheduleFail
+        (parts.now.schedule_line + 1) (length table.now.tasks) (lines parts.now.schedule.now) fail) }
+{
+    if !replay {
+        return Ok(None);
+    }
+    let schedule = read_schedule(alloc, parts.schedule, parts.schedule_line + 1, table)?;
+    Ok(Some(schedule))
+}
+
 /// The application of the parts of a bundle.
-fn load_parts(alloc: Global, parts: &Parts<'_>) -> Result<App, Fail>
+fn load_parts(alloc: Global, parts: &Parts<'_>, replay: bool) -> Result<App, Fail>
     requires table { length (lines parts.now.table.now) < 2 ^ 31 }
     requires code { parts.now.code_line + 1 + length (lines parts.now.code.now) < 2 ^ 31 + 1 }
     requires script { parts.now.script_line + 1 + length (lines parts.now.script.now) < 2 ^ 32 }
-    ensures app { IfOk result (IsApplicationOf (part_lines parts.now)) }
+    requires schedule { parts.now.schedule_line + 1 + length (lines parts.now.schedule.now) < 2 ^ 32 }
+    ensures app { IfOk result (IsApplicationOf replay (part_lines parts.now)) }
     ensures valid { IfOk result IsApp }
     ensures early { IfOk result (λ app. AreEarly app.script) }
-    ensures refused { IfErr result (IsPartsFail (part_lines parts.now)) }
+    ensures refused { IfErr result (IsPartsFail replay (part_lines parts.now)) }
 {
     let table = load_table(alloc, parts)?;
     let image = load_code(alloc, parts, &table)?;
     let script = read_script(alloc, parts.script, parts.script_line + 1, &table)?;
+    let schedule = load_schedule(alloc, parts, &table, replay)?;
     let code_text = Name::from(with_line_feeds(alloc, parts.code)?);
     Ok(App {
         table,
@@ -83,34 +108,34 @@ fn load_parts(alloc: Global, parts: &Parts<'_>) -> Result<App, Fail>
             hints: Items::new(alloc),
         },
         script,
-        schedule: None,
+        schedule,
     })
 }
 
 /// The application of a bundle by its text.
-fn load_text(alloc: Global, text: &str) -> Result<App, Fail>
+fn load_text(alloc: Global, text: &str, replay: bool) -> Result<App, Fail>
     requires { length (lines text.now) < 2 ^ 31 }
-    ensures app { IfOk result (IsApplication text.now) }
+    ensures app { IfOk result (IsApplicationFor replay text.now) }
     ensures valid { IfOk result IsApp }
     ensures early { IfOk result (λ app. AreEarly app.script) }
-    ensures refused { IfErr result (IsBundleFail text.now) }
+    ensures refused { IfErr result (IsBundleFail replay text.now) }
 {
-    match cut(text) {
-        Ok(parts) => load_parts(alloc, &parts),
+    match cut(text, replay) {
+        Ok(parts) => load_parts(alloc, &parts, replay),
         Err(refusal) => Err(Fail::Refused(refusal)),
     }
 }
 
 /// The application of a bundle by its bytes.
-fn load_bytes(alloc: Global, bytes: &[u8]) -> Result<App, Fail>
+fn load_bytes(alloc: Global, bytes: &[u8], replay: bool) -> Result<App, Fail>
     requires { length (lines bytes.now) < 2 ^ 31 }
-    ensures app { IfOk result (IsApplication bytes.now) }
+    ensures app { IfOk result (IsApplicationFor replay bytes.now) }
     ensures valid { IfOk result IsApp }
     ensures early { IfOk result (λ app. AreEarly app.script) }
-    ensures refused { IfErr result (IsBundleFail bytes.now) }
+    ensures refused { IfErr result (IsBundleFail replay bytes.now) }
 {
     match str::from_utf8(bytes) {
-        Ok(text) => load_text(alloc, text),
+        Ok(text) => load_text(alloc, text, replay),
         Err(error) => {
             let line = line_of(bytes, error.valid_up_to());
             Err(Fail::Refused(Fault::NotUtf8.at(line)))
@@ -118,8 +143,8 @@ fn load_bytes(alloc: Global, bytes: &[u8]) -> Result<App, Fail>
     }
 }
 
-/// The application that the bytes of a bundle stand for, by the formats in docs/FORMATS.md. `replay` must be false so far: it
-/// says whether the bundle has a schedule, which no command reads yet.
+/// The application that the bytes of a bundle stand for, by the formats in docs/FORMATS.md. `replay` says whether it is to be
+/// replayed: the bundle then has a schedule as its last part, and otherwise it has none.
 ///
 /// Bytes that are no bundle are refused with the first of these codes, each at its line in the whole input:
 ///
@@ -129,29 +154,33 @@ fn load_bytes(alloc: Global, bytes: &[u8]) -> Result<App, Fail>
 /// * 1 to 10: the code is refused, as [`em_asm_read::read_line`] and [`em_asm::assemble_numbered`] refuse it;
 /// * 42: the entry of a task is no label of the code;
 /// * 60: a `waitjob` has a semaphore beside it, which isn't supported yet;
-/// * 30 to 33: the script is refused, as [`read_script`] refuses it.
+/// * 30 to 33: the script is refused, as [`read_script`] refuses it;
+/// * 50 to 52: with `replay`, the schedule is refused, as [`read_schedule`] refuses it.
 ///
 /// `NoMemory` where memory runs out.
 pub fn load(alloc: Global, bytes: &[u8], replay: bool) -> Result<App, Fail>
-    requires few { length (lines bytes.now) < 2 ^ 31 }
-    requires plain { replay ≡ false }
+    requires { length (lines bytes.now) < 2 ^ 31 }
 
     // What is answered is the application of the bytes, or their refusal.
-    ensures app { IfOk result (IsApplication bytes.now) }
-    ensures refused { IfErr result (IsBundleFail bytes.now) }
+    ensures app { IfOk result (IsApplicationFor replay bytes.now) }
+    ensures refused { IfErr result (IsBundleFail replay bytes.now) }
 
     // Where there is an application, or a refusal, it is answered, unless memory runs out.
-    ensures complete { (app : AppValue) → IsApplication bytes.now app
+    ensures complete { (app : AppValue) → IsApplicationFor replay bytes.now app
         → MatchResult result (λ found. found ≡ app) (λ fail. fail ≡ Fail.NoMemory) }
-    ensures refuses { (refusal : RefusalValue) → IsBundleRefused bytes.now refusal
+    ensures refuses { (refusal : RefusalValue) → IsBundleRefusedFor replay bytes.now refusal
         → MatchResult result (λ _. ⊥)
         (λ fail. (fail ≡ Fail.Refused refusal) ⊎ (fail ≡ Fail.NoMemory)) }
 
     // What holds of each application that is answered.
     ensures valid { IfOk result IsApp }
     ensures early { IfOk result (λ app. AreEarly app.script) }
+
+    // It has a schedule exactly with `replay`, and this is one for as many tasks as its table has.
+    ensures scheduled { IfOk result (λ app. is_some app.schedule ≡ replay) }
+    ensures schedule { IfOk result
+        (λ app. IfSome app.schedule (IsSchedule (length app.table.tasks))) }
 {
-    let _ = replay;
     one_application();
-    load_bytes(alloc, bytes)
+    load_bytes(alloc, bytes, replay)
 }

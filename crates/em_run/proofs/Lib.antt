@@ -1,4 +1,5 @@
 pub mod ListsAgain
+pub mod OneCommand
 pub mod OneAnswer
 pub mod Complete
 pub mod Stepping

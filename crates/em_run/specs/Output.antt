@@ -3,20 +3,25 @@
 use Rattle.std.specs.Prelude.{◌≡◌, ◌⊎◌, ℕ, ◌+◌, ◌≤◌, Bool, true, false, List, ◌++◌, length, Option, None, Some, codes}
 use Rattle.std.specs.Fmt.{decimal}
 use Rattle.em_base.specs.declared.apps.App.{App}
+use Rattle.em_base.specs.declared.events.Schedule.{Schedule}
 use Rattle.em_base.specs.declared.refusals.Refusal.{Refusal}
 use Rattle.em_io.specs.Bytes.{input_limit, Rose, then_left, and_then, IsAtEnd, Took}
 use Rattle.em_ports.specs.Ports.{Places}
 use Rattle.em_show.specs.Listing.{IsListing}
-use Rattle.em_bundle.specs.Application.{IsApplication, IsBundleRefused}
+use Rattle.em_bundle.specs.Application.{IsApplicationFor, IsBundleRefusedFor}
+use Rattle.em_trace.specs.Schedules.{IsSchedule}
+use Rattle.em_gen.specs.Workload.{workload}
+use Rattle.em_plain.specs.Answers.{ArePartWay as ArePlainPart}
+use Rattle.em_plain.specs.Runs.{Went, On, Full, Misfit as MisfitWent, plain_run, state_of}
 use Rattle.em_kernel.specs.declared.did.End.{End}
 use Rattle.em_kernel.specs.declared.did.End.TheVariants.{Horizon, Quiet, Lines, Lapped as LappedEnd}
 use Rattle.em_kernel.specs.Run.{run_steps}
 use Rattle.em_run.specs.declared.commands.Command.{Command}
-use Rattle.em_run.specs.declared.commands.Command.TheVariants.{Run, Trial, List as ListCode}
+use Rattle.em_run.specs.declared.commands.Command.TheVariants.{Run, Trial, Replay, List as ListCode, Bench}
 use Rattle.em_run.specs.declared.status.Status.{Status}
-use Rattle.em_run.specs.declared.status.Status.TheVariants.{Done, Usage, ReadFault, WriteFault, TooLong, Malformed, Lapped, NoMemory}
+use Rattle.em_run.specs.declared.status.Status.TheVariants.{Done, Usage, ReadFault, WriteFault, TooLong, Malformed, Lapped, Misfit, NoMemory}
 use Rattle.em_run.specs.Commands.{IsCommand, IsNoCommand}
-use Rattle.em_run.specs.Runs.{ArePartWay, cause_in, ports_after, run_text}
+use Rattle.em_run.specs.Runs.{ArePartWay, bench_text, cause_in, end_word, misfit_text, ports_after, replay_text, run_text}
 
 -- a source before a call and after it: what it has left, where it tells that, and its count of faults
 pub record Reading : Type 0 where
@@ -35,6 +40,30 @@ pub record ReadsAll (reading : Reading) (bytes : List ℕ) : Type 0 where
   pub all : reading.left_before ≡ then_left bytes reading.left_after
   pub to_end : IsAtEnd reading.left_after
   pub within : length bytes ≤ input_limit
+
+-- these are the bytes of the command: those that were read, or for a bench those of the workload, and then nothing was read
+abbrev pub AreBytesOf : Command → Reading → List ℕ → Type 0
+AreBytesOf Run r bytes = ReadsAll r bytes
+AreBytesOf Trial r bytes = ReadsAll r bytes
+AreBytesOf Replay r bytes = ReadsAll r bytes
+AreBytesOf ListCode r bytes = ReadsAll r bytes
+AreBytesOf (Bench n) r bytes = (bytes ≡ workload n) × (r.left_after ≡ r.left_before)
+
+-- the command is given these bytes: what the source has left, within the limit, or for a bench those of the workload
+abbrev pub AreGiven : Command → Option (List ℕ) → List ℕ → Type 0
+AreGiven Run left bytes = (left ≡ Some bytes) × (length bytes ≤ input_limit)
+AreGiven Trial left bytes = (left ≡ Some bytes) × (length bytes ≤ input_limit)
+AreGiven Replay left bytes = (left ≡ Some bytes) × (length bytes ≤ input_limit)
+AreGiven ListCode left bytes = (left ≡ Some bytes) × (length bytes ≤ input_limit)
+AreGiven (Bench n) left bytes = bytes ≡ workload n
+
+-- the command reads the source
+abbrev pub is_reader : Command → Bool
+is_reader Run = true
+is_reader Trial = true
+is_reader Replay = true
+is_reader ListCode = true
+is_reader (Bench n) = false
 
 -- no more bytes were read than the limit
 abbrev pub ReadsWithin : Reading → Type 0
@@ -70,30 +99,68 @@ pub record IsListOutput (app : App) (before : Places) (status : Status) (text : 
   pub text_is : IsListing app.image.words text
   pub ports_stay : after ≡ before
 
+-- the output of a bench: a line of what the run comes to, and the ports of its last state
+pub record IsBenchOutput (n : ℕ) (app : App) (before : Places) (status : Status) (text : List ℕ) (after : Places) : Type 0 where
+  pub status_is : status ≡ status_of (cause_in (run_steps app before))
+  pub text_is : text ≡ bench_text n app before
+  pub ports_are : after ≡ ports_after app before
+
+-- the status and the text of a plain run, by how far it went
+abbrev pub IsReplay : Went → Status → List ℕ → Type 0
+IsReplay (On p count) status text = (status ≡ Done) × (text ≡ replay_text p.lines (end_word false) count)
+IsReplay (Full p count) status text = (status ≡ Done) × (text ≡ replay_text p.lines (end_word true) count)
+IsReplay (MisfitWent p count) status text = (status ≡ Misfit) × (text ≡ misfit_text count)
+
+-- the output of a replay: that of the plain run under the schedule of the application, and the ports where it stops
+pub record IsReplayOutput (app : App) (before : Places) (status : Status) (text : List ℕ) (after : Places) : Type 0 where
+  pub schedule : Schedule
+  pub given : app.schedule ≡ Some schedule
+  pub replays : IsReplay (plain_run app before schedule) status text
+  pub ports_are : after ≡ (state_of (plain_run app before schedule)).ports
+
 -- the output of a command on an application, with the ports that are handed in: its status, its text, and the ports afterwards
 abbrev pub IsOutput : Command → App → Places → Status → List ℕ → Places → Type 0
 IsOutput Run app before status text after = IsRunOutput app before status text after
 IsOutput Trial app before status text after = IsRunOutput app before status text after
+IsOutput Replay app before status text after = IsReplayOutput app before status text after
 IsOutput ListCode app before status text after = IsListOutput app before status text after
+IsOutput (Bench n) app before status text after = IsBenchOutput n app before status text after
+
+-- the command whose bundle has a schedule
+abbrev pub is_replay : Command → Bool
+is_replay Replay = true
+is_replay Run = false
+is_replay Trial = false
+is_replay ListCode = false
+is_replay (Bench n) = false
 
 -- the bytes stand for an application, and this is the output of the command on it
 pub record IsOutputOf (command : Command) (bytes : List ℕ) (before : Places) (status : Status) (text : List ℕ) (after : Places) : Type 0 where
   pub app : App
-  pub stands : IsApplication bytes app
+  pub stands : IsApplicationFor (is_replay command) bytes app
   pub output : IsOutput command app before status text after
 
--- the commands that run an application
-abbrev pub is_run : Command → Bool
-is_run Run = true
-is_run Trial = true
-is_run ListCode = false
+-- the application has a schedule for its tasks
+abbrev pub HasSchedule : App → Type 0
+HasSchedule app = (schedule : Schedule) × (app.schedule ≡ Some schedule) × IsSchedule (length app.table.tasks) schedule
 
--- the command runs the application that the bytes stand for, and the ports are those after some number of its steps
+-- the ports are those after a part of the plain run under the schedule of an application
+abbrev pub IsReplayPart : App → Places → Places → Type 0
+IsReplayPart app before after = (schedule : Schedule) × (app.schedule ≡ Some schedule) × ArePlainPart app schedule before after
+
+-- the ports are those after a part of what the command runs of an application
+abbrev pub IsPartOf : Command → App → Places → Places → Type 0
+IsPartOf Run app before after = ArePartWay app before after
+IsPartOf Trial app before after = ArePartWay app before after
+IsPartOf Replay app before after = IsReplayPart app before after
+IsPartOf ListCode app before after = ⊥
+IsPartOf (Bench n) app before after = ArePartWay app before after
+
+-- the command runs the application that the bytes stand for, and the ports are those after a part of that
 pub record IsPartWay (command : Command) (bytes : List ℕ) (before after : Places) : Type 0 where
-  pub runs : is_run command ≡ true
   pub app : App
-  pub stands : IsApplication bytes app
-  pub part : ArePartWay app before after
+  pub stands : IsApplicationFor (is_replay command) bytes app
+  pub part : IsPartOf command app before after
 
 -- ---- what is refused
 
@@ -102,9 +169,9 @@ abbrev pub refusal_text : ℕ → ℕ → List ℕ
 refusal_text code line = codes "error " ++ decimal code ++ codes " line " ++ decimal line ++ codes "\n"
 
 -- the bytes are refused, and the text names the code and the line
-pub record IsRefusalText (bytes text : List ℕ) : Type 0 where
+pub record IsRefusalText (command : Command) (bytes text : List ℕ) : Type 0 where
   pub refusal : Refusal
-  pub refused : IsBundleRefused bytes refusal
+  pub refused : IsBundleRefusedFor (is_replay command) bytes refusal
   pub names : text ≡ refusal_text refusal.code refusal.line
 
 -- ---- what is due
@@ -113,7 +180,8 @@ pub record IsRefusalText (bytes text : List ℕ) : Type 0 where
 abbrev pub IsAnswerTo : Command → List ℕ → Places → Status → List ℕ → Places → Type 0
 IsAnswerTo command bytes before Done text after = IsOutputOf command bytes before Done text after
 IsAnswerTo command bytes before Lapped text after = IsOutputOf command bytes before Lapped text after
-IsAnswerTo command bytes before Malformed text after = IsRefusalText bytes text × (after ≡ before)
+IsAnswerTo command bytes before Misfit text after = IsOutputOf command bytes before Misfit text after
+IsAnswerTo command bytes before Malformed text after = IsRefusalText command bytes text × (after ≡ before)
 IsAnswerTo command bytes before NoMemory text after =
     (text ≡ codes "error memory\n") × ((after ≡ before) ⊎ IsPartWay command bytes before after)
 IsAnswerTo command bytes before Usage text after = ⊥
@@ -124,25 +192,26 @@ IsAnswerTo command bytes before TooLong text after = ⊥
 -- the bytes were all that was left, and this is what is due for them
 pub record IsAnswered (command : Command) (r : Reading) (before : Places) (status : Status) (text : List ℕ) (after : Places) : Type 0 where
   pub bytes : List ℕ
-  pub read : ReadsAll r bytes
+  pub read : AreBytesOf command r bytes
   pub due : IsAnswerTo command bytes before status text after
 
 -- the ports are as they were handed in, or those after some number of steps of a run of what was read
 abbrev pub AreLeftBy : Command → Reading → Places → Places → Type 0
 AreLeftBy command r before after =
-    (after ≡ before) ⊎ ((bytes : List ℕ) × ReadsAll r bytes × IsPartWay command bytes before after)
+    (after ≡ before) ⊎ ((bytes : List ℕ) × AreBytesOf command r bytes × IsPartWay command bytes before after)
 
 -- what is due for a command: the source is looked at first, then the length, then what the bytes stand for. Want of memory
 -- needs no other cause.
 abbrev pub IsDueFor : Command → Reading → Places → Status → List ℕ → Places → Type 0
 IsDueFor command r before Done text after = IsAnswered command r before Done text after
 IsDueFor command r before Lapped text after = IsAnswered command r before Lapped text after
+IsDueFor command r before Misfit text after = IsAnswered command r before Misfit text after
 IsDueFor command r before Usage text after = ⊥
 IsDueFor command r before ReadFault text after =
-    ReadsWithin r × Rose r.faults_before r.faults_after × (text ≡ codes "error read\n") × (after ≡ before)
+    (is_reader command ≡ true) × ReadsWithin r × Rose r.faults_before r.faults_after × (text ≡ codes "error read\n") × (after ≡ before)
 IsDueFor command r before WriteFault text after = ⊥
 IsDueFor command r before TooLong text after =
-    Took (λ n. n ≡ input_limit + 1) r.left_before r.left_after × (text ≡ codes "error too long\n") × (after ≡ before)
+    (is_reader command ≡ true) × Took (λ n. n ≡ input_limit + 1) r.left_before r.left_after × (text ≡ codes "error too long\n") × (after ≡ before)
 IsDueFor command r before Malformed text after = IsAnswered command r before Malformed text after
 IsDueFor command r before NoMemory text after = ReadsWithin r × (text ≡ codes "error memory\n") × AreLeftBy command r before after
 
@@ -156,13 +225,14 @@ pub record IsDueForWords (words : List (List ℕ)) (r : Reading) (before : Place
 abbrev pub AreLeft : List (List ℕ) → Reading → Places → Places → Type 0
 AreLeft words r before after =
     (after ≡ before)
-    ⊎ ((command : Command) × (bytes : List ℕ) × IsCommand words command × ReadsAll r bytes × IsPartWay command bytes before after)
+    ⊎ ((command : Command) × (bytes : List ℕ) × IsCommand words command × AreBytesOf command r bytes × IsPartWay command bytes before after)
 
 -- each status, its cause, the text that is due with it and the ports afterwards. The words are looked at first; where they are no command,
 -- nothing is read. Want of memory may come with any words. A fault of writing has no text of its own.
 abbrev pub IsDue : List (List ℕ) → Reading → Places → Status → List ℕ → Places → Type 0
 IsDue words r before Done text after = IsDueForWords words r before Done text after
 IsDue words r before Lapped text after = IsDueForWords words r before Lapped text after
+IsDue words r before Misfit text after = IsDueForWords words r before Misfit text after
 IsDue words r before Usage text after =
     IsNoCommand words × (r.left_after ≡ r.left_before) × (text ≡ codes "error usage\n") × (after ≡ before)
 IsDue words r before ReadFault text after = IsDueForWords words r before ReadFault text after

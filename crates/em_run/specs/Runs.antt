@@ -1,5 +1,5 @@
 -- What a run of an application comes to, and the text that the program writes of it. The format is this project's own.
-use Rattle.std.specs.Prelude.{◌≡◌, ℕ, List, [], ◌∷◌, ◌++◌, count_by, Option, None, Some, codes}
+use Rattle.std.specs.Prelude.{◌≡◌, ℕ, Bool, true, false, List, [], ◌∷◌, ◌++◌, count_by, length, Option, None, Some, codes}
 use Rattle.std.specs.List.{flat_map}
 use Rattle.std.specs.Fmt.{decimal}
 use Rattle.em_base.specs.declared.apps.App.{App}
@@ -83,3 +83,24 @@ abbrev pub run_text : App → Places → List ℕ
 run_text app ports =
     let steps = run_steps app ports in
     parts_text (lines_in steps) (cause_in steps) (run_end app ports).clock (switches_in steps)
+
+-- the line of a bench: the number, how many lines the trace has, the last clock and the number of switches
+abbrev pub bench_text : ℕ → App → Places → List ℕ
+bench_text n app ports =
+    let steps = run_steps app ports in
+    codes "bench " ++ decimal n ++ codes " lines " ++ decimal (length (lines_in steps)) ++ codes " clock " ++ decimal (run_end app ports).clock
+    ++ codes " switches " ++ decimal (switches_in steps) ++ codes "\n"
+
+-- the parts of a plain run: its trace, and a line with a word and the number of steps
+abbrev pub replay_text : List Line → List ℕ → ℕ → List ℕ
+replay_text lines word count =
+    codes "%trace\n" ++ trace_text lines ++ codes "%end\n" ++ word ++ codes " " ++ decimal count ++ codes "\n"
+
+-- the word for the end of a plain run: the trace is full, or it came to the last count
+abbrev pub end_word : Bool → List ℕ
+end_word true = codes "lines"
+end_word false = codes "replayed"
+
+-- the line of a misfit, with the number of steps
+abbrev pub misfit_text : ℕ → List ℕ
+misfit_text count = codes "misfit " ++ decimal count ++ codes "\n"

@@ -1,5 +1,5 @@
 -- The bytes of a text that is written, and the answers to an application and to a refusal.
-use Rattle.std.specs.Prelude.{◌≡◌, ◌⊎◌, ℕ, List, true, string_bytes, codes}
+use Rattle.std.specs.Prelude.{◌≡◌, ◌⊎◌, ℕ, List, string_bytes, codes}
 use Rattle.em_base.specs.declared.apps.App.{App}
 use Rattle.em_base.specs.declared.refusals.Refusal.{Refusal}
 use Rattle.em_run.specs.declared.answer.Text.{Text}
@@ -7,9 +7,8 @@ use Rattle.em_run.specs.declared.answer.Text.TheVariants.{Fixed, Made}
 use Rattle.em_ports.specs.Ports.{Places}
 use Rattle.em_run.specs.declared.commands.Command.{Command}
 use Rattle.em_run.specs.declared.status.Status.{Status}
-use Rattle.em_run.specs.declared.status.Status.TheVariants.{Done, Malformed, Lapped, NoMemory}
-use Rattle.em_run.specs.Output.{IsOutput, is_run, refusal_text}
-use Rattle.em_run.specs.Runs.{ArePartWay}
+use Rattle.em_run.specs.declared.status.Status.TheVariants.{Done, Malformed, Lapped, Misfit, NoMemory}
+use Rattle.em_run.specs.Output.{IsOutput, IsPartOf, refusal_text}
 
 -- the bytes of a text
 abbrev pub text_bytes : Text → List ℕ
@@ -26,6 +25,7 @@ IsRefusalAnswer refusal _ text = ⊥
 abbrev pub IsAnswerFor : Command → App → Places → Status → List ℕ → Places → Type 0
 IsAnswerFor command app before Done text after = IsOutput command app before Done text after
 IsAnswerFor command app before Lapped text after = IsOutput command app before Lapped text after
+IsAnswerFor command app before Misfit text after = IsOutput command app before Misfit text after
 IsAnswerFor command app before NoMemory text after =
-    (text ≡ codes "error memory\n") × ((after ≡ before) ⊎ ((is_run command ≡ true) × ArePartWay app before after))
+    (text ≡ codes "error memory\n") × ((after ≡ before) ⊎ IsPartOf command app before after)
 IsAnswerFor command app before _ text after = ⊥

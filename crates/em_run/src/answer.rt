@@ -1,9 +1,11 @@
 //! What is due: the status and the text, by the words, by what is read and by the ports that are handed in.
-ghost use Rattle.std.specs.Prelude.{◌≡◌, ◌≤◌, [], codes, length, map, string_bytes};
+ghost use Rattle.std.specs.Prelude.{◌≡◌, ◌≤◌, ℕ, [], codes, length, map, string_bytes, true};
 ghost use Rattle.em_base.specs.Apps.{IsApp};
 ghost use Rattle.em_io.specs.Bytes.{input_limit};
-ghost use Rattle.em_run.specs.Commands.{IsNoCommand};
-ghost use Rattle.em_run.specs.Output.{IsAnswerTo, IsDue, IsDueFor, reading};
+ghost use Rattle.em_run.specs.Commands.{IsCommand, IsNoCommand};
+ghost use Rattle.em_gen.specs.Workload.{workload};
+ghost use Rattle.em_run.specs.declared.commands.Command.{Command as CommandValue};
+ghost use Rattle.em_run.specs.Output.{IsAnswerTo, IsDue, IsDueFor, HasSchedule, is_reader, is_replay, reading};
 ghost use Rattle.em_run.specs.Texts.{IsAnswerFor, IsRefusalAnswer, text_bytes};
 
 use crate::commands::{Command, command_of};
@@ -11,6 +13,7 @@ use crate::output::output_of;
 use crate::status::{OUT_OF_MEMORY, Status};
 use em_base::{App, Fail, NoMemory, Refusal};
 use em_bundle::load;
+use em_gen::make;
 use em_io::{ReadError, Source, read_all};
 use em_ports::{Ports, Seen};
 use std::alloc::Global;
@@ -86,22 +89,38 @@ pub fn decide<S: Source>(alloc: Global, words: &[String], src: &mut S, ports: &m
         let Due = IsDue (map string_bytes words.now) read (seen ports.old) in
         Due result.status (text_bytes result.text) (seen ports.new) }
     ensures unread { IsNoCommand (map string_bytes words.now) → src.new ≡ src.old }
+    ensures bench_unread { (n : ℕ) → IsCommand (map string_bytes words.now) (CommandValue.Bench n)
+        → src.new ≡ src.old }
     ensures grows { S.faults src.old ≤ S.faults src.new }
 {
     match command_of(alloc, words) {
+        Ok(Some(Command::Bench(n))) => bench_answer(alloc, n, ports),
         Ok(Some(command)) => read_and_answer(alloc, command, src, ports),
         Ok(None) => Answer::fixed(Status::Usage, "error usage\n"),
         Err(NoMemory) => out_of_memory(),
     }
 }
 
-/// What is due for a command and for what is read of the source.
+/// What is due for a bench of the workload of a number. Nothing is read.
+fn bench_answer(alloc: Global, n: u32, ports: &mut Ports) -> Answer
+    ensures { let seen = ⟦<Ports as Seen>⟧.seen_as in
+        let Due = IsAnswerTo (CommandValue.Bench n) (workload n) (seen ports.old) in
+        Due result.status (text_bytes result.text) (seen ports.new) }
+{
+    match make(alloc, n) {
+        Ok(bytes) => answer_to(alloc, Command::Bench(n), bytes.as_slice(), ports),
+        Err(NoMemory) => out_of_memory(),
+    }
+}
+
+/// What is due for a command that reads, and for what is read of the source.
 fn read_and_answer<S: Source>(
     alloc: Global,
     command: Command,
     src: &mut S,
     ports: &mut Ports,
 ) -> Answer
+    requires reads { is_reader command ≡ true }
     ensures due { let read =
         reading (S.left src.old) (S.left src.new) (S.faults src.old) (S.faults src.new) in
         let seen = ⟦<Ports as Seen>⟧.seen_as in
@@ -124,7 +143,7 @@ fn answer_to(alloc: Global, command: Command, bytes: &[u8], ports: &mut Ports) -
         let Due = IsAnswerTo command bytes.now (seen ports.old) in
         Due result.status (text_bytes result.text) (seen ports.new) }
 {
-    match load(alloc, bytes, false) {
+    match load(alloc, bytes, command.has_schedule()) {
         Ok(app) => app_answer(alloc, command, &app, ports),
         Err(Fail::Refused(refusal)) => refusal_answer(alloc, refusal),
         Err(Fail::NoMemory) => out_of_memory(),
@@ -136,6 +155,7 @@ fn app_answer(alloc: Global, command: Command, app: &App, ports: &mut Ports) -> 
     requires app { IsApp app.now }
     requires messages { app.now.table.messages ≡ [] }
     requires hints { app.now.hints.hints ≡ [] }
+    requires schedule { is_replay command ≡ true → HasSchedule app.now }
     ensures { let seen = ⟦<Ports as Seen>⟧.seen_as in
         let Due = IsAnswerFor command app.now (seen ports.old) in
         Due result.status (text_bytes result.text) (seen ports.new) }

@@ -1,13 +1,18 @@
 //! The commands, by the words of the program.
-ghost use Rattle.std.specs.Prelude.{◌≡◌, ◌≢◌, [], IfOk, IfSome, IfNone, Some, map, option_map, string_bytes};
+ghost use Rattle.std.specs.Prelude.{◌≡◌, ◌≢◌, ℕ, [], None, IfOk, IfSome, IfNone, Some, map, option_map, string_bytes};
 ghost use Rattle.clap.specs.Words.{app_of, fault_of, first_of, found_of, matches_of, rows_of};
 ghost use Rattle.em_run.specs.Commands as spec;
-ghost use Rattle.em_run.specs.Commands.{IsCommand, IsNoCommand, command_text};
+ghost use Rattle.em_run.specs.Output.{is_replay};
+ghost use Rattle.em_run.specs.Commands.{IsCommand, IsNoCommand, IsNumberOf, Spells, command_text};
 
 use clap::error::ErrorKind;
 use clap::{Arg, ArgAction, ArgMatches};
 use em_base::NoMemory;
+use em_base::numbers::digits_number;
 use std::alloc::{AllocError, Global};
+
+/// The most digits of a number of the command line.
+const MOST_DIGITS: usize = 10;
 
 /// What the program is told to do with a bundle.
 #[derive(Clone, Copy, Debug, PartialEq, Eq)]
@@ -16,8 +21,21 @@ pub enum Command {
     Run,
     /// `trial`: the same.
     Trial,
+    /// `replay`: run it on the plain machine under the schedule that the bundle has, and write the trace and the end.
+    Replay,
     /// `list`: write the listing of its code.
     List,
+    /// `bench` with a number: run the workload of that number, and write a line of what the run came to.
+    Bench(u32),
+}
+
+impl Command {
+    /// Whether the bundle of the command has a schedule.
+    pub fn has_schedule(self) -> bool
+        ensures { result ≡ is_replay self }
+    {
+        matches!(self, Command::Replay)
+    }
 }
 
 /// The program's command line: one value COMMAND, which is required, and an option `--number` with a value.
@@ -68,21 +86,58 @@ fn value<'a>(found: &ArgMatches<'a>, id: &str) -> Option<&'a str>
     found.get_str(id)
 }
 
-/// The command of a name.
+/// The number that a text spells in 1 to 10 decimal digits, where it has 32 bits. Leading zeros are allowed.
+fn numeral(text: &str) -> Option<u32>
+    ensures some { IfSome result (λ n. Spells n text.now) }
+    ensures none { IfNone result ((n : ℕ) → Spells n text.now → ⊥) }
+{
+    if text.len() > MOST_DIGITS {
+        return None;
+    }
+    u32::try_from(digits_number(text, 10)?).ok()
+}
+
+/// The command of a name, with the number that is given.
+fn command_by(name: &str, number: Option<&str>) -> Option<Command>
+    ensures some { IfSome result (λ command. (name.now ≡ command_text command)
+        × IsNumberOf command (option_map (λ text. text.now) number.entry)) }
+    ensures none { IfNone result ((command : Command) → name.now ≡ command_text command
+        → IsNumberOf command (option_map (λ text. text.now) number.entry) → ⊥) }
+{
+    match number {
+        None => command_named(name),
+        Some(text) => bench_of(name, text),
+    }
+}
+
+/// The command of a name, where no number is given.
 fn command_named(name: &str) -> Option<Command>
-    ensures some { IfSome result (λ command. name.now ≡ command_text command) }
-    ensures none { IfNone result ((command : Command) → name.now ≢ command_text command) }
+    ensures some { IfSome result (λ command. (name.now ≡ command_text command) × IsNumberOf command None) }
+    ensures none { IfNone result ((command : Command) → name.now ≡ command_text command → IsNumberOf command None → ⊥) }
 {
     match name {
         "run" => Some(Command::Run),
         "trial" => Some(Command::Trial),
+        "replay" => Some(Command::Replay),
         "list" => Some(Command::List),
         _ => None,
     }
 }
 
-/// The command that the words are: COMMAND is `run`, `trial` or `list`, and no `--number` is given, which is for commands that come
-/// later. Other words are none. `NoMemory` where memory to read the words could not be had.
+/// The command of a name with a number: `bench` alone has one.
+fn bench_of(name: &str, text: &str) -> Option<Command>
+    ensures some { IfSome result (λ command. (name.now ≡ command_text command) × IsNumberOf command (Some text.now)) }
+    ensures none { IfNone result ((command : Command) → name.now ≡ command_text command → IsNumberOf command (Some text.now) → ⊥) }
+{
+    match name {
+        "bench" => Some(Command::Bench(numeral(text)?)),
+        _ => None,
+    }
+}
+
+/// The command that the words are: COMMAND is `run`, `trial`, `replay` or `list` and no `--number` is given, or it is `bench` and
+/// `--number` has 1 to 10 digits of a number of 32 bits. Other words are none. `NoMemory` where memory to read the words could
+/// not be had.
 pub fn command_of(alloc: Global, words: &[String]) -> Result<Option<Command>, NoMemory>
     ensures some { IfOk result (λ found. IfSome found (IsCommand (map string_bytes words.now))) }
     ensures none { IfOk result (λ found. IfNone found (IsNoCommand (map string_bytes words.now))) }
@@ -90,11 +145,8 @@ pub fn command_of(alloc: Global, words: &[String]) -> Result<Option<Command>, No
     let Some(found) = matches(alloc, words)? else {
         return Ok(None);
     };
-    if value(&found, "number").is_some() {
-        return Ok(None);
-    }
     match value(&found, "COMMAND") {
-        Some(name) => Ok(command_named(name)),
+        Some(name) => Ok(command_by(name, value(&found, "number"))),
         None => Ok(None),
     }
 }

@@ -1,18 +1,26 @@
 //! What a command writes of an application, and how it ends: the parts of a run, or the listing of the code.
-ghost use Rattle.std.specs.Prelude.{◌≡◌, ◌⊎◌, ◌++◌, [], true, IfOk, OnOk, Some, string_bytes};
+ghost use Rattle.std.specs.Prelude.{◌≡◌, ◌⊎◌, ◌++◌, [], codes, length, true, IfOk, OnOk, Some};
+ghost use Rattle.std.specs.Prelude.{string_bytes};
 ghost use Rattle.em_base.specs.Apps.{IsApp};
 ghost use Rattle.em_show.specs.Listing.{IsListing};
-ghost use Rattle.em_run.specs.Output.{IsOutput, IsRunOutput, is_run, status_by};
-ghost use Rattle.em_run.specs.Runs.{ArePartWay, cause_text, end_text, parts_text};
+ghost use Rattle.em_trace.specs.Printed.{trace_text};
+ghost use Rattle.em_trace.specs.Schedules.{IsSchedule};
+ghost use Rattle.em_plain.specs.Answers.{ArePartWay as ArePlainPart};
+ghost use Rattle.em_plain.specs.Runs.{plain_run, state_of};
+ghost use Rattle.em_run.specs.Output.{IsBenchOutput, IsOutput, IsPartOf, IsReplay, IsReplayOutput, IsReplayPart};
+ghost use Rattle.em_run.specs.Output.{IsRunOutput, HasSchedule, is_replay, status_by};
+ghost use Rattle.em_run.specs.Runs as spec;
+ghost use Rattle.em_run.specs.Runs.{ArePartWay, cause_text, end_text, end_word, parts_text};
 
 use crate::commands::Command;
 use crate::running::{Run, run_app};
 use crate::status::Status;
-use em_base::{App, NoMemory};
+use em_base::{App, NoMemory, Schedule};
 use em_kernel::End;
+use em_plain::{PlainFail, PlainRun};
 use em_ports::{Ports, Seen};
 use em_show::listing;
-use em_trace::put_trace;
+use em_trace::{Line, put_trace};
 use std::alloc::Global;
 use std::fmt::Write;
 
@@ -36,15 +44,18 @@ pub fn output_of(
     requires app { IsApp app.now }
     requires messages { app.now.table.messages ≡ [] }
     requires hints { app.now.hints.hints ≡ [] }
+    requires schedule { is_replay command ≡ true → HasSchedule app.now }
     ensures output { let seen = ⟦<Ports as Seen>⟧.seen_as in
         let Is = IsOutput command app.now (seen ports.old) in IfOk result (λ output.
         Is output.status (string_bytes output.text) (seen ports.new)) }
     ensures left { let seen = ⟦<Ports as Seen>⟧.seen_as in (seen ports.new ≡ seen ports.old)
-        ⊎ ((is_run command ≡ true) × ArePartWay app.now (seen ports.old) (seen ports.new)) }
+        ⊎ IsPartOf command app.now (seen ports.old) (seen ports.new) }
 {
     match command {
         Command::Run | Command::Trial => run_output(alloc, app, ports),
+        Command::Replay => replay_output(alloc, app, ports),
         Command::List => list_output(alloc, app),
+        Command::Bench(n) => bench_output(alloc, n, app, ports),
     }
 }
 
@@ -80,6 +91,101 @@ fn run_output(alloc: Global, app: &App, ports: &mut Ports) -> Result<Output, NoM
     })
 }
 
+/// The output of a bench of a number: a line of what its workload comes to.
+fn bench_output(alloc: Global, n: u32, app: &App, ports: &mut Ports) -> Result<Output, NoMemory>
+    requires app { IsApp app.now }
+    requires messages { app.now.table.messages ≡ [] }
+    requires hints { app.now.hints.hints ≡ [] }
+    ensures output { let seen = ⟦<Ports as Seen>⟧.seen_as in
+        let Is = IsBenchOutput n app.now (seen ports.old) in IfOk result (λ output.
+        Is output.status (string_bytes output.text) (seen ports.new)) }
+    ensures part { let seen = ⟦<Ports as Seen>⟧.seen_as in
+        ArePartWay app.now (seen ports.old) (seen ports.new) }
+{
+    let run = run_app(alloc, app, ports)?;
+    let lines = run.lines.as_slice().len();
+    let clock = run.clock;
+    let switches = run.switches;
+    Ok(Output {
+        status: status_of(run.end),
+        text: format!(in alloc; "bench {n} lines {lines} clock {clock} switches {switches}\n")?,
+    })
+}
+
+/// The output of a replay under the schedule that the application has.
+fn replay_output(alloc: Global, app: &App, ports: &mut Ports) -> Result<Output, NoMemory>
+    requires app { IsApp app.now }
+    requires messages { app.now.table.messages ≡ [] }
+    requires hints { app.now.hints.hints ≡ [] }
+    requires schedule { HasSchedule app.now }
+    ensures output { let seen = ⟦<Ports as Seen>⟧.seen_as in
+        let Is = IsReplayOutput app.now (seen ports.old) in IfOk result (λ output.
+        Is output.status (string_bytes output.text) (seen ports.new)) }
+    ensures part { let seen = ⟦<Ports as Seen>⟧.seen_as in
+        IsReplayPart app.now (seen ports.old) (seen ports.new) }
+{
+    match &app.schedule {
+        Some(schedule) => replay_under(alloc, app, schedule, ports),
+        None => Err(NoMemory),
+    }
+}
+
+/// The output of a replay under a schedule.
+fn replay_under(
+    alloc: Global,
+    app: &App,
+    schedule: &Schedule,
+    ports: &mut Ports,
+) -> Result<Output, NoMemory>
+    requires app { IsApp app.now }
+    requires messages { app.now.table.messages ≡ [] }
+    requires hints { app.now.hints.hints ≡ [] }
+    requires schedule { IsSchedule (length app.now.table.tasks) schedule.now }
+    ensures output { let seen = ⟦<Ports as Seen>⟧.seen_as in
+        let Is = IsReplay (plain_run app.now (seen ports.old) schedule.now) in
+        IfOk result (λ output. Is output.status (string_bytes output.text)) }
+    ensures ports { let seen = ⟦<Ports as Seen>⟧.seen_as in
+        let stop = state_of (plain_run app.now (seen ports.old) schedule.now) in
+        IfOk result (λ _. seen ports.new ≡ stop.ports) }
+    ensures part { let seen = ⟦<Ports as Seen>⟧.seen_as in
+        ArePlainPart app.now schedule.now (seen ports.old) (seen ports.new) }
+{
+    match em_plain::run(alloc, app, schedule, ports) {
+        Ok(run) => Ok(Output {
+            status: Status::Done,
+            text: replay_text(alloc, &run)?,
+        }),
+        Err(PlainFail::Misfit(count)) => Ok(Output {
+            status: Status::Misfit,
+            text: format!(in alloc; "misfit {count}\n")?,
+        }),
+        Err(PlainFail::NoMemory) => Err(NoMemory),
+    }
+}
+
+/// The text of a plain run: its trace and its end, each under its header line.
+fn replay_text(alloc: Global, run: &PlainRun) -> Result<String, NoMemory>
+    ensures { let word = end_word run.now.full in
+        IfOk result (λ text. string_bytes text ≡ spec.replay_text run.now.lines word run.now.count) }
+{
+    let word = if run.full { "lines" } else { "replayed" };
+    let count = run.count;
+    let mut text = trace_part(alloc, run.lines.as_slice())?;
+    write!(text, "{word} {count}\n")?;
+    Ok(text)
+}
+
+/// The text of a trace and of the header line of the end.
+fn trace_part(alloc: Global, lines: &[Line]) -> Result<String, NoMemory>
+    ensures { let whole = codes "%trace\n" ++ trace_text lines.now ++ codes "%end\n" in
+        IfOk result (λ text. string_bytes text ≡ whole) }
+{
+    let mut text = String::from_str(alloc, "%trace\n")?;
+    put_trace(&mut text, lines)?;
+    text.push_str("%end\n")?;
+    Ok(text)
+}
+
 /// The status of a run, by how it ended.
 fn status_of(end: End) -> Status
     ensures { result ≡ status_by end }
@@ -96,9 +202,7 @@ fn text_of(alloc: Global, run: &Run) -> Result<String, NoMemory>
         let whole = parts run.now.clock run.now.switches in
         IfOk result (λ text. string_bytes text ≡ whole) }
 {
-    let mut text = String::from_str(alloc, "%trace\n")?;
-    put_trace(&mut text, run.lines.as_slice())?;
-    text.push_str("%end\n")?;
+    let mut text = trace_part(alloc, run.lines.as_slice())?;
     put_end(&mut text, run)?;
     Ok(text)
 }

@@ -22,6 +22,8 @@ pub enum Status {
     Malformed,
     /// The command was carried out and its output written; the run ended where a reader was overtaken.
     Lapped,
+    /// The schedule asked for a step where no task was selected; the line that says so was written.
+    Misfit,
     /// Memory could not be had.
     NoMemory,
 }
@@ -39,6 +41,7 @@ impl Status {
             Status::TooLong => 4,
             Status::Malformed => 5,
             Status::Lapped => 7,
+            Status::Misfit => 8,
             Status::NoMemory => 9,
         }
     }

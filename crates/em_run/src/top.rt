@@ -1,15 +1,15 @@
 //! The top call.
 ghost use Rattle.std.specs.Prelude.{◌≡◌, ◌≢◌, ◌⊎◌, ℕ, ◌+◌, ◌<◌, ◌≤◌, List, length, map, take};
-ghost use Rattle.std.specs.Prelude.{IsTrue, Some, codes, is_some, string_bytes};
+ghost use Rattle.std.specs.Prelude.{IsTrue, Some, codes, is_some, string_bytes, true};
 ghost use Rattle.std.specs.List.{list_all};
 ghost use Rattle.em_base.specs.declared.apps.App.{App};
 ghost use Rattle.em_base.specs.declared.refusals.Refusal.{Refusal};
 ghost use Rattle.em_io.specs.Bytes.{input_limit, Rose, Took};
-ghost use Rattle.em_bundle.specs.Application.{IsApplication, IsBundleRefused};
+ghost use Rattle.em_bundle.specs.Application.{IsApplicationFor, IsBundleRefusedFor};
 ghost use Rattle.em_run.specs.declared.commands.Command.{Command};
 ghost use Rattle.em_run.specs.Commands.{IsCommand, IsNoCommand};
-ghost use Rattle.em_run.specs.Output.{AreLeft, IsDue, IsOutput, IsOutputOf};
-ghost use Rattle.em_run.specs.Output.{ReadsAll, Wrote, reading, refusal_text};
+ghost use Rattle.em_run.specs.Output.{AreBytesOf, AreGiven, AreLeft, IsDue, IsOutput, IsOutputOf};
+ghost use Rattle.em_run.specs.Output.{Wrote, is_reader, is_replay, reading, refusal_text};
 
 use crate::answer::decide;
 use crate::status::Status;
@@ -18,15 +18,18 @@ use em_io::{Sink, Source, write_all};
 use em_ports::{Ports, Seen};
 use std::alloc::Global;
 
-/// All that the program does. `words` are the words after its name: the command `run`, `trial` or `list`, as the command line
-/// reads them. All read the source to its end and take what they read for a bundle; `run` and `trial` then run the application
-/// on the kernel, with the ports that are handed in, and write the trace and the end, and `list` writes the listing of its
-/// code. A port must be plugged in at each place.
+/// All that the program does. `words` are the words after its name: the command `run`, `trial`, `replay` or `list`, or `bench`
+/// with `--number` and its number of 32 bits, as the command line reads them. All but `bench` read the source to its end and
+/// take what they read for a bundle. `run` and `trial` run the application on the kernel, with the ports that are handed in,
+/// and write the trace and the end; `replay` runs it on the plain machine under the schedule that its bundle has, and writes
+/// the same parts; `list` writes the listing of its code. `bench` reads nothing and runs the workload of its number on the
+/// kernel, and writes one line of what the run came to. A port must be plugged in at each place.
 ///
 /// The words are looked at first, then the source, then the length of what was read, then what it stands for; the first that
 /// is wrong decides the status, and then nothing is run and the ports stay as they were. Each status but `WriteFault` has one
 /// text, which is made first and then written whole; `WriteFault` takes the place of any status whose text could not be
-/// written. After it and after `NoMemory` the ports are those after some number of steps of the run, which may be none.
+/// written. After it and after `NoMemory` the ports are those after some number of steps of the run, which may be none, and
+/// after `Misfit` those where the replay asked for a step that no task takes.
 pub fn emeralds<S: Source, K: Sink>(
     alloc: Global,
     words: &[String],
@@ -41,8 +44,8 @@ pub fn emeralds<S: Source, K: Sink>(
     ensures complete { let seen = ⟦<Ports as Seen>⟧.seen_as in
         (command : Command) (bytes : List ℕ) (app : App)
         → IsCommand (map string_bytes words.now) command
-        → S.left src.old ≡ Some bytes → length bytes ≤ input_limit
-        → IsApplication bytes app
+        → AreGiven command (S.left src.old) bytes
+        → IsApplicationFor (is_replay command) bytes app
         → ¬ (Rose (S.faults src.old) (S.faults src.new))
         → ¬ (Rose (K.faults out.old) (K.faults out.new))
         → (result ≡ Status.NoMemory)
@@ -52,17 +55,17 @@ pub fn emeralds<S: Source, K: Sink>(
     // Where the bytes alone are wrong, their refusal is written, unless memory runs out.
     ensures refuses { (command : Command) (bytes : List ℕ) (refusal : Refusal)
         → IsCommand (map string_bytes words.now) command
-        → S.left src.old ≡ Some bytes → length bytes ≤ input_limit
-        → IsBundleRefused bytes refusal
+        → AreGiven command (S.left src.old) bytes
+        → IsBundleRefusedFor (is_replay command) bytes refusal
         → ¬ (Rose (S.faults src.old) (S.faults src.new))
         → ¬ (Rose (K.faults out.old) (K.faults out.new))
         → let line = refusal_text refusal.code refusal.line in
         (result ≡ Status.NoMemory)
         ⊎ ((result ≡ Status.Malformed) × Wrote (K.written out.old) (K.written out.new) line) }
 
-    // Where the length alone is wrong, the input is refused for it, unless memory runs out.
+    // Where the length of what is read alone is wrong, it is refused for that, unless memory runs out.
     ensures refuses_length { (command : Command) (bytes : List ℕ)
-        → IsCommand (map string_bytes words.now) command
+        → IsCommand (map string_bytes words.now) command → is_reader command ≡ true
         → S.left src.old ≡ Some bytes → input_limit < length bytes
         → ¬ (Rose (S.faults src.old) (S.faults src.new))
         → ¬ (Rose (K.faults out.old) (K.faults out.new))
@@ -73,20 +76,31 @@ pub fn emeralds<S: Source, K: Sink>(
         → (result ≡ Status.Usage) ⊎ ((result ≡ Status.WriteFault) ⊎ (result ≡ Status.NoMemory)) }
     ensures unread { IsNoCommand (map string_bytes words.now) → src.new ≡ src.old }
 
+    // A bench doesn't touch the source either.
+    ensures bench_unread { (n : ℕ) → IsCommand (map string_bytes words.now) (Command.Bench n)
+        → src.new ≡ src.old }
+
     // Each status comes with its cause, with the line or the output that was written, and with the ports that are left.
     ensures done { result ≡ Status.Done
         → let read = reading (S.left src.old) (S.left src.new) (S.faults src.old) (S.faults src.new) in
         let seen = ⟦<Ports as Seen>⟧.seen_as in
         (command : Command) × (bytes : List ℕ) × (text : List ℕ)
-        × IsCommand (map string_bytes words.now) command × ReadsAll read bytes
+        × IsCommand (map string_bytes words.now) command × AreBytesOf command read bytes
         × IsOutputOf command bytes (seen ports.old) Status.Done text (seen ports.new)
         × Wrote (K.written out.old) (K.written out.new) text }
     ensures lapped { result ≡ Status.Lapped
         → let read = reading (S.left src.old) (S.left src.new) (S.faults src.old) (S.faults src.new) in
         let seen = ⟦<Ports as Seen>⟧.seen_as in
         (command : Command) × (bytes : List ℕ) × (text : List ℕ)
-        × IsCommand (map string_bytes words.now) command × ReadsAll read bytes
+        × IsCommand (map string_bytes words.now) command × AreBytesOf command read bytes
         × IsOutputOf command bytes (seen ports.old) Status.Lapped text (seen ports.new)
+        × Wrote (K.written out.old) (K.written out.new) text }
+    ensures misfit { result ≡ Status.Misfit
+        → let read = reading (S.left src.old) (S.left src.new) (S.faults src.old) (S.faults src.new) in
+        let seen = ⟦<Ports as Seen>⟧.seen_as in
+        (command : Command) × (bytes : List ℕ) × (text : List ℕ)
+        × IsCommand (map string_bytes words.now) command × AreBytesOf command read bytes
+        × IsOutputOf command bytes (seen ports.old) Status.Misfit text (seen ports.new)
         × Wrote (K.written out.old) (K.written out.new) text }
     ensures usage { result ≡ Status.Usage → let seen = ⟦<Ports as Seen>⟧.seen_as in
         IsNoCommand (map string_bytes words.now)
@@ -103,8 +117,9 @@ pub fn emeralds<S: Source, K: Sink>(
         → let read = reading (S.left src.old) (S.left src.new) (S.faults src.old) (S.faults src.new) in
         let seen = ⟦<Ports as Seen>⟧.seen_as in
         (command : Command) × (bytes : List ℕ) × (refusal : Refusal)
-        × IsCommand (map string_bytes words.now) command × ReadsAll read bytes
-        × IsBundleRefused bytes refusal × (seen ports.new ≡ seen ports.old)
+        × IsCommand (map string_bytes words.now) command × AreBytesOf command read bytes
+        × IsBundleRefusedFor (is_replay command) bytes refusal
+        × (seen ports.new ≡ seen ports.old)
         × Wrote (K.written out.old) (K.written out.new) (refusal_text refusal.code refusal.line) }
     ensures no_memory { result ≡ Status.NoMemory
         → Wrote (K.written out.old) (K.written out.new) (codes "error memory\n") }

@@ -2,5 +2,5 @@ use Rattle.std.proofs.Common.{arith, ap, length}
 use Rattle.em_base.proofs.LineCounts.{length-lines}
 use Rattle.load_speed.proofs.main.Goals as goal
 
-pub load-found-requires-clause-few : goal.load-found-requires-clause-few
-load-found-requires-clause-few c = omega (arith, length-lines c.as_bytes.result.now, c.if-len.false, c.len.ensures, c.as_bytes.ensures.len, ap length c.as_bytes.ensures.value)
+pub load-found-requires : goal.load-found-requires
+load-found-requires c = omega (arith, length-lines c.as_bytes.result.now, c.if-len.false, c.len.ensures, c.as_bytes.ensures.len, ap length c.as_bytes.ensures.value)

@@ -18,5 +18,9 @@ returns c =
       one_script = c.one_script.ensures.events;
       one_script_refusal = c.one_script.ensures.refusal;
       script_not_refusal = c.one_script.ensures.either;
+      schedule_or_refusal = c.one_schedule.ensures.some;
+      one_schedule = c.one_schedule.ensures.schedule;
+      one_schedule_refusal = c.one_schedule.ensures.refusal;
+      schedule_not_refusal = c.one_schedule.ensures.either;
     } in
     record { some = some_application laws; app = one_application laws; refusal = one_refusal laws; either = application_or_refused laws }

@@ -1,4 +1,5 @@
-use Rattle.em_run.proofs.OneAnswer.{BundleLaws, command_or_none, one_command, same_answer, some_answer}
+use Rattle.em_run.proofs.OneAnswer.{BundleLaws, same_answer, some_answer}
+use Rattle.em_run.proofs.OneCommand.{command_or_none, one_command}
 use Rattle.em_run.proofs.laws.one_answer.Goals as goal
 
 pub returns-clause-command : goal.returns-clause-command

@@ -8,24 +8,24 @@ pub returns-in-Ok-clause-within : goal.returns-in-Ok-clause-within
 returns-in-Ok-clause-within g c = λ other written. within_limit _ _ _ _ _ _ c.decide-due.ensures.due other
 
 pub returns-in-Ok-clause-complete : goal.returns-in-Ok-clause-complete
-returns-in-Ok-clause-complete g c = λ command bytes app words told few stands still written.
+returns-in-Ok-clause-complete g c = λ command bytes app words given stands still written.
     elim (complete record { some = c.one_application.ensures.some; app = c.one_application.ensures.app; refusal = c.one_application.ensures.refusal; either = c.one_application.ensures.either }
-    _ _ _ _ _ _ command bytes app words told few stands still c.decide-due.ensures.due) [
+    _ _ _ _ _ _ command bytes app words given stands still c.decide-due.ensures.due) [
       | inl no_memory ↦ inl no_memory
       | inr output ↦ inr (text_bytes c.decide-due.result.text, output, subst (Wrote (g.K.Sink.written c.args.out.now) (g.K.Sink.written c.write_all.new.out)) c.as_bytes.ensures c.in-Ok.ensures.all)
     ]
 
 pub returns-in-Ok-clause-refuses : goal.returns-in-Ok-clause-refuses
-returns-in-Ok-clause-refuses g c = λ command bytes refusal words told few refused still written.
+returns-in-Ok-clause-refuses g c = λ command bytes refusal words given refused still written.
     elim (refuses record { some = c.one_application.ensures.some; app = c.one_application.ensures.app; refusal = c.one_application.ensures.refusal; either = c.one_application.ensures.either }
-    _ _ _ _ _ _ command bytes refusal words told few refused still c.decide-due.ensures.due) [
+    _ _ _ _ _ _ command bytes refusal words given refused still c.decide-due.ensures.due) [
       | inl no_memory ↦ inl no_memory
       | inr malformed ↦ inr (malformed.0, subst (Wrote (g.K.Sink.written c.args.out.now) (g.K.Sink.written c.write_all.new.out)) (c.as_bytes.ensures ∙ malformed.1) c.in-Ok.ensures.all)
     ]
 
 pub returns-in-Ok-clause-refuses_length : goal.returns-in-Ok-clause-refuses_length
-returns-in-Ok-clause-refuses_length g c = λ command bytes words told many still written.
-    refuses_length _ _ _ _ _ _ command bytes words told many still c.decide-due.ensures.due
+returns-in-Ok-clause-refuses_length g c = λ command bytes words reads told many still written.
+    refuses_length _ _ _ _ _ _ command bytes words reads told many still c.decide-due.ensures.due
 
 pub returns-in-Ok-clause-left : goal.returns-in-Ok-clause-left
 returns-in-Ok-clause-left g c = are_left _ _ _ _ _ _ c.decide-due.ensures.due
