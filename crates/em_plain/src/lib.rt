@@ -1,7 +1,9 @@
 //! The plain machine: it runs an application under a schedule, which says after how many steps each event comes, without a clock.
 #![tactic(auto)]
 
+mod laws;
 mod machine;
 mod running;
 
+pub use laws::whole_run;
 pub use running::{PlainFail, PlainRun, run};

@@ -143,7 +143,7 @@ impl<'a> Machine<'a> {
         let (stepped, line) = self.system.step(t, ports);
         self.count += 1;
         self.selected = selected_after(&mut self.system, stepped, self.selected);
-        put_line(alloc, &mut self.lines, line)
+        put_line(alloc, &mut self.lines, &line)
     }
 
     /// An event comes, unless the trace is full.
@@ -163,7 +163,7 @@ impl<'a> Machine<'a> {
         }
         let line = self.system.happen(event, ports);
         self.selected = self.system.select();
-        put_line(alloc, &mut self.lines, line)
+        put_line(alloc, &mut self.lines, &line)
     }
 
     /// The machine goes on until so many steps were taken.
@@ -192,14 +192,14 @@ impl<'a> Machine<'a> {
     }
 }
 
-/// Puts the line of a step or an event at the end, where it has one.
-fn put_line(alloc: Global, lines: &mut Items<Line>, line: Option<Line>) -> Result<(), Halt>
+/// Puts the line of a step or an event at the end, where it has one. It is borrowed, so that a line that isn't there isn't moved.
+fn put_line(alloc: Global, lines: &mut Items<Line>, line: &Option<Line>) -> Result<(), Halt>
     ensures memory { IfErr result (λ halt. halt ≡ OutOfMemory) }
-    ensures put { OnOk result (lines.new ≡ lines.old ++ option_list line) }
+    ensures put { OnOk result (lines.new ≡ lines.old ++ option_list line.now) }
 {
     match line {
         None => Ok(()),
-        Some(line) => Ok(lines.push(alloc, line)?),
+        Some(line) => Ok(lines.push(alloc, *line)?),
     }
 }
 

@@ -89,7 +89,8 @@ fn follow(
     requires sound { All (IsSound 0) (tasks_of machine.old.held.threads) }
     ensures follow { let seen = ⟦<Ports as Seen>⟧.seen_as in
         (p : Plain) → IsAt machine.old (seen ports.old) p → let app = machine.old.held.app in
-        HasGone (part_from app p schedule.now) (run_from app p schedule.now) result machine.new (seen ports.new) }
+        let whole = run_from app p schedule.now in
+        HasGone (part_from app p schedule.now) whole result machine.new (seen ports.new) }
 {
     for (count, event) in schedule.events.as_slice() {
         machine.advance(alloc, *count, ports)?;

@@ -7,8 +7,9 @@ use Rattle.em_ports.specs.Ports.{Places}
 use Rattle.em_bundle.specs.Application.{IsApplicationFor, IsBundleRefusedFor}
 use Rattle.em_kernel.specs.Run.{counted_boot, fuel}
 use Rattle.em_gate.specs.Boot.{boot}
-use Rattle.em_plain.specs.Runs.{state_of}
-use Rattle.em_plain.proofs.Follow.{whole_part}
+use Rattle.em_gate.specs.State.{Plain}
+use Rattle.em_base.specs.declared.events.Schedule.{Schedule}
+use Rattle.em_plain.specs.Runs.{part_from, run_from, state_of}
 use Rattle.em_run.specs.declared.commands.Command.TheVariants.{Run, Trial, Replay, List as ListCode, Bench}
 use Rattle.em_io.specs.Bytes.{input_limit, Rose, then_left, IsAtEnd, Took}
 use Rattle.em_run.specs.declared.commands.Command.{Command}
@@ -74,23 +75,27 @@ within_limit words r before NoMemory text after d other = d.0
 
 -- ---- what is left of the ports
 
+-- a whole plain run is a part of itself
+pub record PlainLaws : Type 0 where
+  pub whole : (app : App) (p : Plain) (schedule : Schedule) → (part : ℕ × ℕ) × (run_from app p schedule ≡ part_from app p schedule part)
+
 -- the ports of a replay are those after a part of it
-replay_part : (app : App) (before : Places) (status : Status) (text : List ℕ) (after : Places) → IsReplayOutput app before status text after → IsReplayPart app before after
-replay_part app before status text after out =
-    let (part, same) = whole_part app (boot app before) out.schedule in
+replay_part : PlainLaws → (app : App) (before : Places) (status : Status) (text : List ℕ) (after : Places) → IsReplayOutput app before status text after → IsReplayPart app before after
+replay_part laws app before status text after out =
+    let (part, same) = laws.whole app (boot app before) out.schedule in
     (out.schedule, out.given, (part, out.ports_are ∙ ap (λ went. (state_of went).ports) same))
 
 -- the ports of an output are as they were, or those after all steps of the run
-left_by_output : (command : Command) (bytes : List ℕ) (before : Places) (s : Status) (text : List ℕ) (after : Places) (app : App) → IsApplicationFor (is_replay command) bytes app
+left_by_output : PlainLaws → (command : Command) (bytes : List ℕ) (before : Places) (s : Status) (text : List ℕ) (after : Places) (app : App) → IsApplicationFor (is_replay command) bytes app
     → IsOutput command app before s text after → (after ≡ before) ⊎ IsPartWay command bytes before after
-left_by_output Run bytes before s text after app stands out =
+left_by_output laws Run bytes before s text after app stands out =
     inr record { app = app; stands = stands; part = (fuel app (counted_boot app before), out.ports_are) }
-left_by_output Trial bytes before s text after app stands out =
+left_by_output laws Trial bytes before s text after app stands out =
     inr record { app = app; stands = stands; part = (fuel app (counted_boot app before), out.ports_are) }
-left_by_output Replay bytes before s text after app stands out =
-    inr record { app = app; stands = stands; part = replay_part app before s text after out }
-left_by_output ListCode bytes before s text after app stands out = inl out.ports_stay
-left_by_output (Bench n) bytes before s text after app stands out =
+left_by_output laws Replay bytes before s text after app stands out =
+    inr record { app = app; stands = stands; part = replay_part laws app before s text after out }
+left_by_output laws ListCode bytes before s text after app stands out = inl out.ports_stay
+left_by_output laws (Bench n) bytes before s text after app stands out =
     inr record { app = app; stands = stands; part = (fuel app (counted_boot app before), out.ports_are) }
 
 left_by : (words : List (List ℕ)) (r : Reading) (before after : Places) (command : Command) (bytes : List ℕ) → IsCommand words command → AreBytesOf command r bytes
@@ -99,23 +104,23 @@ left_by words r before after command bytes w read (inl stay) = inl stay
 left_by words r before after command bytes w read (inr part) = inr (command, bytes, w, read, part)
 
 -- whatever is due, the ports are as they were handed in, or those after some number of steps of the run
-pub are_left : (words : List (List ℕ)) (r : Reading) (before : Places) (s : Status) (text : List ℕ) (after : Places) → IsDue words r before s text after
+pub are_left : PlainLaws → (words : List (List ℕ)) (r : Reading) (before : Places) (s : Status) (text : List ℕ) (after : Places) → IsDue words r before s text after
     → AreLeft words r before after
-are_left words r before Done text after d =
+are_left laws words r before Done text after d =
     let out = d.due.due in
-    left_by words r before after d.command d.due.bytes d.words_are d.due.read (left_by_output d.command d.due.bytes before Done text after out.app out.stands out.output)
-are_left words r before Lapped text after d =
+    left_by words r before after d.command d.due.bytes d.words_are d.due.read (left_by_output laws d.command d.due.bytes before Done text after out.app out.stands out.output)
+are_left laws words r before Lapped text after d =
     let out = d.due.due in
-    left_by words r before after d.command d.due.bytes d.words_are d.due.read (left_by_output d.command d.due.bytes before Lapped text after out.app out.stands out.output)
-are_left words r before Misfit text after d =
+    left_by words r before after d.command d.due.bytes d.words_are d.due.read (left_by_output laws d.command d.due.bytes before Lapped text after out.app out.stands out.output)
+are_left laws words r before Misfit text after d =
     let out = d.due.due in
-    left_by words r before after d.command d.due.bytes d.words_are d.due.read (left_by_output d.command d.due.bytes before Misfit text after out.app out.stands out.output)
-are_left words r before Usage text after d = inl d.3
-are_left words r before ReadFault text after d = inl d.due.4
-are_left words r before WriteFault text after d = absurd d
-are_left words r before TooLong text after d = inl d.due.3
-are_left words r before Malformed text after d = inl d.due.due.1
-are_left words r before NoMemory text after d = d.2
+    left_by words r before after d.command d.due.bytes d.words_are d.due.read (left_by_output laws d.command d.due.bytes before Misfit text after out.app out.stands out.output)
+are_left laws words r before Usage text after d = inl d.3
+are_left laws words r before ReadFault text after d = inl d.due.4
+are_left laws words r before WriteFault text after d = absurd d
+are_left laws words r before TooLong text after d = inl d.due.3
+are_left laws words r before Malformed text after d = inl d.due.due.1
+are_left laws words r before NoMemory text after d = d.2
 
 -- ---- what comes
 

@@ -62,7 +62,8 @@ fn matches<'a>(alloc: Global, words: &'a [String]) -> Result<Option<ArgMatches<'
     ensures taken { let given = map string_bytes words.now in
         IfOk result (λ found. IfSome found (λ m. fault_of spec.command_line given ≡ [])) }
     ensures rows { let given = map string_bytes words.now in
-        IfOk result (λ found. IfSome found (λ m. rows_of (found_of m) ≡ matches_of spec.command_line given)) }
+        let rows = matches_of spec.command_line given in
+        IfOk result (λ found. IfSome found (λ m. rows_of (found_of m) ≡ rows)) }
     ensures refused { let given = map string_bytes words.now in
         IfOk result (λ found. IfNone found (fault_of spec.command_line given ≢ [])) }
 {
@@ -112,8 +113,10 @@ fn command_by(name: &str, number: Option<&str>) -> Option<Command>
 
 /// The command of a name, where no number is given.
 fn command_named(name: &str) -> Option<Command>
-    ensures some { IfSome result (λ command. (name.now ≡ command_text command) × IsNumberOf command None) }
-    ensures none { IfNone result ((command : Command) → name.now ≡ command_text command → IsNumberOf command None → ⊥) }
+    ensures some { IfSome result (λ command. (name.now ≡ command_text command)
+        × IsNumberOf command None) }
+    ensures none { IfNone result ((command : Command) → name.now ≡ command_text command
+        → IsNumberOf command None → ⊥) }
 {
     match name {
         "run" => Some(Command::Run),
@@ -126,8 +129,10 @@ fn command_named(name: &str) -> Option<Command>
 
 /// The command of a name with a number: `bench` alone has one.
 fn bench_of(name: &str, text: &str) -> Option<Command>
-    ensures some { IfSome result (λ command. (name.now ≡ command_text command) × IsNumberOf command (Some text.now)) }
-    ensures none { IfNone result ((command : Command) → name.now ≡ command_text command → IsNumberOf command (Some text.now) → ⊥) }
+    ensures some { IfSome result (λ command. (name.now ≡ command_text command)
+        × IsNumberOf command (Some text.now)) }
+    ensures none { IfNone result ((command : Command) → name.now ≡ command_text command
+        → IsNumberOf command (Some text.now) → ⊥) }
 {
     match name {
         "bench" => Some(Command::Bench(numeral(text)?)),

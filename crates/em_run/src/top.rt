@@ -15,6 +15,7 @@ use crate::answer::decide;
 use crate::status::Status;
 use em_bundle::one_application;
 use em_io::{Sink, Source, write_all};
+use em_plain::whole_run;
 use em_ports::{Ports, Seen};
 use std::alloc::Global;
 
@@ -156,6 +157,8 @@ pub fn emeralds<S: Source, K: Sink>(
 {
     // Bytes stand for one application or have one refusal, on which `complete` and `refuses` rest.
     one_application();
+    // A whole replay is a part of itself, on which `left` rests.
+    whole_run();
     let due = decide(alloc, words, src, ports);
     match write_all(out, due.text.as_bytes()) {
         Ok(()) => due.status,

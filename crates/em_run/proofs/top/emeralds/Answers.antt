@@ -28,10 +28,10 @@ returns-in-Ok-clause-refuses_length g c = λ command bytes words reads told many
     refuses_length _ _ _ _ _ _ command bytes words reads told many still c.decide-due.ensures.due
 
 pub returns-in-Ok-clause-left : goal.returns-in-Ok-clause-left
-returns-in-Ok-clause-left g c = are_left _ _ _ _ _ _ c.decide-due.ensures.due
+returns-in-Ok-clause-left g c = are_left record { whole = c.whole_run.ensures } _ _ _ _ _ _ c.decide-due.ensures.due
 
 pub returns-clause-left : goal.returns-clause-left
-returns-clause-left g c = are_left _ _ _ _ _ _ c.decide-due.ensures.due
+returns-clause-left g c = are_left record { whole = c.whole_run.ensures } _ _ _ _ _ _ c.decide-due.ensures.due
 
 pub returns-clause-write_fault : goal.returns-clause-write_fault
 returns-clause-write_fault g c = λ failed.
