@@ -11,6 +11,9 @@ many steps and lines the run had:
     events    200,000 releases by timers and 100,000 events of the script
     lines     a task that puts words to a port: 900,000 lines of trace
 
+Then it runs 32 tasks, of which the first goes round the loop of `busy` to the horizon, by `trial` and by `replay` under the schedule
+of that run, and 300,000 lines of a schedule by `replay`.
+
 The program must be built: `cd crates/emeralds && rt run -- list < ../cases/data/one_shot.bundle`. Where hart_speed is built too, its
 time for as many instructions as those of `busy` stands beside.
 """
@@ -75,6 +78,12 @@ def lines():
     return bundle([task("a", HORIZON)], "a: li a7, 4\nli a0, 5\nloop: ecall\nj loop\n")
 
 
+def crowd():
+    """32 tasks that are released at 0, and the first never ends."""
+    code = "a: li s0, 0x10000000\nloop: lw t0, 0(s0)\naddi t0, t0, 1\nsw t0, 0(s0)\nj loop\n"
+    return bundle([task(f"t{t}", HORIZON).replace(f'entry = "t{t}"', 'entry = "a"') for t in range(32)], code)
+
+
 def seconds(words, text):
     """The processor time of the program on a text, and what it wrote."""
     before = resource.getrusage(resource.RUSAGE_CHILDREN)
@@ -90,6 +99,14 @@ def main(words):
         times = [seconds([PROGRAM, "trial"], text) for _ in range(runs)]
         out = times[0][1].splitlines()
         print(f"{name}: {min(time for time, _ in times):.3f} s, {len(out)} lines of output, {out[-1]}")
+    # The releases and the switch take less than 3,000 cycles.
+    last = (HORIZON - 3_000) // 6 * 4
+    schedule = "%schedule\n" + "".join(f"0 rel {t} 0 0\n" for t in range(32)) + f"{last} end\n"
+    times = [(seconds([PROGRAM, "trial"], crowd())[0], seconds([PROGRAM, "replay"], crowd() + schedule)[0]) for _ in range(runs)]
+    print(f"32 tasks: trial {min(a for a, _ in times):.3f} s, replay {min(b for _, b in times):.3f} s")
+    schedule = "%schedule\n" + "0 rel 0 0 0\n" * 300_000 + "0 end\n"
+    print(f"300,000 lines of a schedule: {min(seconds([PROGRAM, 'replay'], crowd() + schedule)[0] for _ in range(runs)):.3f} s")
+    print(f"bench: {min(seconds([PROGRAM, 'bench', '--number', '7'], '')[0] for _ in range(runs)):.3f} s")
     if os.path.exists(HART):
         least = min(seconds([HART, str(BUSY_INSTRUCTIONS)], "")[0] for _ in range(runs))
         print(f"hart_speed, {BUSY_INSTRUCTIONS} instructions: {least:.3f} s")
