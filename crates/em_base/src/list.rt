@@ -29,6 +29,13 @@ impl<T> Items<T> {
         }
     }
 
+    /// The list of the items of a vector, in order. It takes no memory.
+    pub fn from_vec(items: Vec<T>) -> Items<T>
+        ensures { result ≡ items.items }
+    {
+        Items { inner: items }
+    }
+
     /// The items, in order.
     pub fn as_slice(&self) -> &[T]
         ensures { result.now ≡ self.now }
