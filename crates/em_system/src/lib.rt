@@ -13,5 +13,7 @@ mod showing;
 mod standing;
 mod stepping;
 mod system;
+mod trace;
 
 pub use system::System;
+pub use trace::put_line;

@@ -1,5 +1,5 @@
 //! A step of the selected task: its instruction, or the call or the fault that it comes to.
-ghost use Rattle.std.specs.Prelude.{◌≡◌, ℕ, ◌+◌, ◌<◌, ◌^◌, List, All, length, Option, Some};
+ghost use Rattle.std.specs.Prelude.{◌≡◌, ℕ, ◌+◌, ◌<◌, ◌^◌, List, All, length, Option, None, Some};
 ghost use Rattle.em_base.specs.declared.ids.SemId.{SemId as Semaphore};
 ghost use Rattle.em_base.specs.Selection.{selected};
 ghost use Rattle.em_hart.specs.declared.answers.Class.{Class as InstructionClass};
@@ -45,6 +45,9 @@ impl<'a> System<'a> {
             → Holds self.old p promises → result.0 ≡ Taken.Ran class
             → let app = self.old.app in let o = outcome app.table app.image.words t.0 p in
             plain_selected app.table.tasks (after_outcome o t p) ≡ plain_selected app.table.tasks p }
+
+        // And an instruction has no line.
+        ensures line { (class : InstructionClass) → result.0 ≡ Taken.Ran class → result.1 ≡ None }
     {
         match self.carry_out(t) {
             Stepped::Ran(class) => (Stepped::Ran(class), None),
