@@ -1,6 +1,6 @@
 -- The machine on its way to a count.
 use Rattle.std.specs.Bool.{⊤}
-use Rattle.std.proofs.Common.{◌≡◌, ◌∙◌, ℕ, suc, ◌+◌, ◌-◌, ◌<◌, ◌≤◌, true, false, All, None, Some, Result, Ok, Err, IsErr, IsErrAnd, sym, ap, subst, refl, arith}
+use Rattle.std.proofs.Common.{◌≡◌, ◌∙◌, ℕ, suc, ◌+◌, ◌-◌, ◌<◌, ◌≤◌, min, true, false, All, None, Some, Result, Ok, Err, IsErr, IsErrAnd, sym, ap, subst, refl, arith}
 use Rattle.std.proofs.lemmas.Bool.{false≢true}
 use Rattle.std.proofs.lemmas.List.Elements.{All-weaker}
 use Rattle.em_base.specs.declared.apps.App.{App}
@@ -15,7 +15,7 @@ use Rattle.em_system.specs.Standings.{number_of}
 use Rattle.em_plain.specs.declared.machine.Halt.{Halt}
 use Rattle.em_plain.specs.declared.machine.Halt.TheVariants.{Full as FullHalt, Misfit as MisfitHalt, NoMemory}
 use Rattle.em_plain.specs.Reached.{HasGone, IsAt, Reached}
-use Rattle.em_plain.specs.Runs.{On, and_then, is_full, state_of, steps}
+use Rattle.em_plain.specs.Runs.{On, and_then, is_full, state_of, steps, steps_before}
 use Rattle.em_plain.proofs.Went.{no_step, steps_add, stops_full, stops_misfit, takes_step}
 
 -- from where it was first it has come to where it is, by steps alone, and not past the count
@@ -65,7 +65,7 @@ rest_is app target from count p p' f h e =
 -- the trace is full
 pub halts_full : (first at : Reached) (places places' : Places) (target : ℕ) (p : Plain) → Advancing first places target at places' → at.count < target
     → ((q : Plain) (seen : Places) → IsAt at seen q → true ≡ is_full q) → IsAt first places p
-    → HasGone (λ k. steps first.held.app k p first.count) (steps first.held.app (target - first.count) p first.count) (Err FullHalt) at places'
+    → HasGone (λ k. steps_before first.held.app target k p first.count) (steps first.held.app (target - first.count) p first.count) (Err FullHalt) at places'
 halts_full first at places places' target p adv h full is =
     let (p', gone, here) = adv.gone p is in (
       p',
@@ -77,7 +77,7 @@ halts_full first at places places' target p adv h full is =
 -- no task is selected
 pub halts_misfit : (first at : Reached) (places places' : Places) (target : ℕ) (p : Plain) → Advancing first places target at places' → at.count < target
     → ((q : Plain) (seen : Places) → IsAt at seen q → false ≡ is_full q) → at.selected ≡ None → IsAt first places p
-    → HasGone (λ k. steps first.held.app k p first.count) (steps first.held.app (target - first.count) p first.count) (Err MisfitHalt) at places'
+    → HasGone (λ k. steps_before first.held.app target k p first.count) (steps first.held.app (target - first.count) p first.count) (Err MisfitHalt) at places'
 halts_misfit first at places places' target p adv h full none is =
     let (p', gone, here) = adv.gone p is in
     let selects : plain_selected first.held.app.table.tasks p' ≡ None =
@@ -90,7 +90,7 @@ halts_misfit first at places places' target p adv h full none is =
 
 -- it has come to the count
 pub arrives : (first at : Reached) (places places' : Places) (target : ℕ) (p : Plain) (done : ⊤) → Advancing first places target at places' → target ≤ at.count → IsAt first places p
-    → HasGone (λ k. steps first.held.app k p first.count) (steps first.held.app (target - first.count) p first.count) (Ok done) at places'
+    → HasGone (λ k. steps_before first.held.app target k p first.count) (steps first.held.app (target - first.count) p first.count) (Ok done) at places'
 arrives first at places places' target p done adv h is =
     let (p', gone, here) = adv.gone p is in
     let same : target - first.count ≡ at.count - first.count = omega (arith, h, adv.upto, adv.from) in
@@ -113,21 +113,23 @@ moved first at places places' target p p' t adv full one gone here =
     ∙ no_step app next (suc at.count)
 
 -- memory ran out for the line of a step
-pub halts_part : (first at at' : Reached) (places places' places'' : Places) (target : ℕ) (p : Plain) (t : TaskId) (result : Result ⊤ Halt) (halt : Halt)
-    → Advancing first places target at places'
+pub halts_part : (first at at' : Reached) (places places' places'' : Places) (target : ℕ) (p : Plain) (t : TaskId) (result : Result ⊤ Halt)
+    → Advancing first places target at places' → at.count < target
     → ((q : Plain) (seen : Places) → IsAt at seen q → false ≡ is_full q) → at.selected ≡ Some t
     → ((q : Plain) → IsAt at places' q → places'' ≡ (after_step at.held.app.table at.held.app.image.words t q).ports)
-    → halt ≡ NoMemory → IsErr result → IsErrAnd result (λ h. h ≡ halt) → IsAt first places p
-    → HasGone (λ k. steps first.held.app k p first.count) (steps first.held.app (target - first.count) p first.count) result at' places''
-halts_part first at at' places places' places'' target p t (Ok done) halt adv full one seen e err and is = absurd (false≢true err)
-halts_part first at at' places places' places'' target p t (Err other) halt adv full one seen e err and is =
+    → IsErr result → IsErrAnd result (λ h. h ≡ NoMemory) → IsAt first places p
+    → HasGone (λ k. steps_before first.held.app target k p first.count) (steps first.held.app (target - first.count) p first.count) result at' places''
+halts_part first at at' places places' places'' target p t (Ok done) adv h full one seen err and is = absurd (false≢true err)
+halts_part first at at' places places' places'' target p t (Err other) adv h full one seen err and is =
     let (p', gone, here) = adv.gone p is in
     let app : App = first.held.app in
+    let k = at.count - first.count + 1 in
     let went = moved first at places places' target p p' t adv full one gone here in
+    let few : min (at.count - first.count + 1) (target - first.count) ≡ at.count - first.count + 1 = omega (arith, h, adv.from) in
     let ports : places'' ≡ (after_step app.table app.image.words t p').ports =
     seen p' here ∙ ap (λ (a : App). (after_step a.table a.image.words t p').ports) adv.app in
-    subst (λ h. HasGone (λ k. steps app k p first.count) (steps app (target - first.count) p first.count) (Err h) at' places'') (sym (and ∙ e))
-    (at.count - first.count + 1, ports ∙ ap (λ w. (state_of w).ports) (sym went))
+    subst (λ h. HasGone (λ k. steps_before app target k p first.count) (steps app (target - first.count) p first.count) (Err h) at' places'') (sym and)
+    (k, ports ∙ ap (λ w. (state_of w).ports) (sym went) ∙ ap (λ n. (state_of (steps app n p first.count)).ports) (sym few))
 
 -- and goes on after a step
 pub advances : (first at at' : Reached) (places places' places'' : Places) (target : ℕ) (t : TaskId) → Advancing first places target at places' → at.count < target

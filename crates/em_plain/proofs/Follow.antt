@@ -1,6 +1,7 @@
 -- The machine under a schedule.
 use Rattle.std.specs.Bool.{⊤}
-use Rattle.std.proofs.Common.{◌≡◌, ◌∙◌, ℕ, zero, suc, ◌+◌, ◌-◌, ◌<◌, ◌≤◌, ◌++◌, if◌then◌else◌, false, List, [], ◌∷◌, length, take, drop, slice_index_or, All, Result, Ok, Err, IsErr, IsErrAnd, sym, ap, subst, refl, arith}
+use Rattle.std.proofs.Common.{◌≡◌, ◌∙◌, ℕ, zero, suc, ◌+◌, ◌-◌, ◌<◌, ◌≤◌, ◌++◌, if◌then◌else◌, false, min, List, [], ◌∷◌, length, take, drop, slice_index_or, All, Result, Ok, Err, IsErr, IsErrAnd, sym, ap, subst, refl, arith}
+use Rattle.std.proofs.Math.ListN.{drop_of_length-le}
 use Rattle.std.proofs.Math.Seq.{drop-cons}
 use Rattle.std.proofs.lemmas.Bool.{false≢true}
 use Rattle.std.proofs.lemmas.List.{take-append-drop}
@@ -15,8 +16,8 @@ use Rattle.em_system.specs.Sound.{IsSound}
 use Rattle.em_plain.specs.declared.machine.Halt.{Halt}
 use Rattle.em_plain.specs.declared.machine.Halt.TheVariants.{Full as FullHalt, Misfit as MisfitHalt, NoMemory}
 use Rattle.em_plain.specs.Reached.{HasGone, HasTaken, IsAt, Reached}
-use Rattle.em_plain.specs.Runs.{Went, On, Full, Misfit, and_then, events, is_full, part_from, run_from, state_of, steps}
-use Rattle.em_plain.proofs.Went.{events_append, next_event, no_event, no_step}
+use Rattle.em_plain.specs.Runs.{Went, On, Full, Misfit, and_then, events, is_full, next_count, part_from, run_from, state_of, steps, steps_before}
+use Rattle.em_plain.proofs.Went.{events_append, next_event, no_event, no_step, takes}
 
 -- so many events have come, and no step was taken behind the last
 pub record Following (first : Reached) (places : Places) (schedule : Schedule) (i : ℕ) (at : Reached) (places' : Places) : Type 0 where
@@ -50,9 +51,6 @@ all_taken [] (suc i) h = refl
 all_taken (x ∷ xs) zero h = absurd (omega (arith, h))
 all_taken (x ∷ xs) (suc i) h = ap (λ rest. x ∷ rest) (all_taken xs i (omega (arith, h)))
 
-abbrev takes : App → ℕ × Event → List (ℕ × Event) → Plain → ℕ → Went
-takes app e rest p count = if is_full p then Full p count else events app (after_event e.1 p) count rest
-
 -- the rest of the run, from where so many events have come
 rest_is : (app : App) (schedule : Schedule) (i : ℕ) (d : ℕ × Event) (p p' : Plain) (count : ℕ) → i < length schedule.events
     → events app p 0 (take i schedule.events) ≡ On p' count
@@ -68,15 +66,33 @@ rest_is app schedule i d p p' count h gone =
     ∙ ap (λ went. and_then went (λ q n. events app q n (e ∷ rest))) gone
     ∙ next_event app p' count e rest)
 
--- a part of the way to the next event is one of the run
-part_is : (app : App) (schedule : Schedule) (i k : ℕ) (p p' : Plain) (count : ℕ) → events app p 0 (take i schedule.events) ≡ On p' count
-    → part_from app p schedule (i, k) ≡ steps app k p' count
-part_is app schedule i k p p' count gone = ap (λ went. and_then went (λ q n. steps app k q n)) gone
+-- the count of the next event
+next_at : (schedule : Schedule) (i : ℕ) (d : ℕ × Event) → i < length schedule.events
+    → next_count (drop i schedule.events) schedule.last ≡ (slice_index_or schedule.events i d).0
+next_at schedule i d h = ap (λ es. next_count es schedule.last) (drop-cons schedule.events i d h)
+
+-- or the last count, where there is no event more
+next_last : (schedule : Schedule) (i : ℕ) → length schedule.events ≤ i → next_count (drop i schedule.events) schedule.last ≡ schedule.last
+next_last schedule i h = ap (λ es. next_count es schedule.last) (drop_of_length-le schedule.events h)
+
+-- a part of the way to what comes next is one of the run
+part_is : (app : App) (schedule : Schedule) (i k next : ℕ) (p p' : Plain) (count : ℕ) → events app p 0 (take i schedule.events) ≡ On p' count
+    → next_count (drop i schedule.events) schedule.last ≡ next → part_from app p schedule (i, k) ≡ steps_before app next k p' count
+part_is app schedule i k next p p' count gone e =
+    ap (λ went. and_then went (λ q n. steps_before app (next_count (drop i schedule.events) schedule.last) k q n)) gone ∙ ap (λ m. steps_before app m k p' count) e
+
+-- no part of it
+part_none : (app : App) (schedule : Schedule) (i : ℕ) (p p' : Plain) (count : ℕ) → events app p 0 (take i schedule.events) ≡ On p' count
+    → part_from app p schedule (i, 0) ≡ On p' count
+part_none app schedule i p p' count gone =
+    let next = next_count (drop i schedule.events) schedule.last in
+    let none : min 0 (next_count (drop i schedule.events) schedule.last - count) ≡ 0 = omega arith in
+    part_is app schedule i 0 next p p' count gone refl ∙ ap (λ k. steps app k p' count) none ∙ no_step app p' count
 
 -- where the way to the next event ends, the run does
 pub halts_before : (first at at' : Reached) (places places' places'' : Places) (schedule : Schedule) (i : ℕ) (d : ℕ × Event) (p : Plain) (halt : Halt) (result : Result ⊤ Halt)
     → Following first places schedule i at places' → i < length schedule.events
-    → ((q : Plain) → IsAt at places' q → HasGone (λ k. steps at.held.app k q at.count) (steps at.held.app ((slice_index_or schedule.events i d).0 - at.count) q at.count) (Err halt) at' places'')
+    → ((q : Plain) → IsAt at places' q → HasGone (λ k. steps_before at.held.app (slice_index_or schedule.events i d).0 k q at.count) (steps at.held.app ((slice_index_or schedule.events i d).0 - at.count) q at.count) (Err halt) at' places'')
     → IsErr result → IsErrAnd result (λ h. h ≡ halt) → IsAt first places p
     → HasGone (part_from first.held.app p schedule) (run_from first.held.app p schedule) result at' places''
 halts_before first at at' places places' places'' schedule i d p halt (Ok done) f h way err and is = absurd (false≢true err)
@@ -85,10 +101,10 @@ halts_before first at at' places places' places'' schedule i d p halt (Err other
     let app : App = first.held.app in
     subst (λ o. HasGone (part_from app p schedule) (run_from app p schedule) (Err o) at' places'') (sym and)
     (by_halt halt p' gone
-    (subst (λ (a : App). HasGone (λ k. steps a k p' at.count) (steps a ((slice_index_or schedule.events i d).0 - at.count) p' at.count) (Err halt) at' places'') f.app (way p' here)))
+    (subst (λ (a : App). HasGone (λ k. steps_before a (slice_index_or schedule.events i d).0 k p' at.count) (steps a ((slice_index_or schedule.events i d).0 - at.count) p' at.count) (Err halt) at' places'') f.app (way p' here)))
   where
     by_halt : (o : Halt) (p' : Plain) → events first.held.app p 0 (take i schedule.events) ≡ On p' at.count
-        → HasGone (λ k. steps first.held.app k p' at.count) (steps first.held.app ((slice_index_or schedule.events i d).0 - at.count) p' at.count) (Err o) at' places''
+        → HasGone (λ k. steps_before first.held.app (slice_index_or schedule.events i d).0 k p' at.count) (steps first.held.app ((slice_index_or schedule.events i d).0 - at.count) p' at.count) (Err o) at' places''
         → HasGone (part_from first.held.app p schedule) (run_from first.held.app p schedule) (Err o) at' places''
     by_halt FullHalt p' gone (q, went, there) = (
       q,
@@ -103,7 +119,7 @@ halts_before first at at' places places' places'' schedule i d p halt (Err other
       there,
     )
     by_halt NoMemory p' gone (k, seen) =
-        ((i, k), seen ∙ ap (λ w. (state_of w).ports) (sym (part_is first.held.app schedule i k p p' at.count gone)))
+        ((i, k), seen ∙ ap (λ w. (state_of w).ports) (sym (part_is first.held.app schedule i k _ p p' at.count gone (next_at schedule i d h))))
 
 -- the events up to the next one, where the machine has come to its count
 next_gone : (app : App) (schedule : Schedule) (i : ℕ) (d : ℕ × Event) (p p' p'' : Plain) (count count' : ℕ) → i < length schedule.events
@@ -123,7 +139,7 @@ next_gone app schedule i d p p' p'' count count' h gone went full =
 -- where the next event doesn't come, the run ends
 pub halts_at : (first at at' at'' : Reached) (places places' places'' places''' : Places) (schedule : Schedule) (i : ℕ) (d : ℕ × Event) (p : Plain) (done : ⊤) (halt : Halt) (result : Result ⊤ Halt)
     → Following first places schedule i at places' → i < length schedule.events
-    → ((q : Plain) → IsAt at places' q → HasGone (λ k. steps at.held.app k q at.count) (steps at.held.app ((slice_index_or schedule.events i d).0 - at.count) q at.count) (Ok done) at' places'')
+    → ((q : Plain) → IsAt at places' q → HasGone (λ k. steps_before at.held.app (slice_index_or schedule.events i d).0 k q at.count) (steps at.held.app ((slice_index_or schedule.events i d).0 - at.count) q at.count) (Ok done) at' places'')
     → ((q : Plain) → IsAt at' places'' q → HasTaken (slice_index_or schedule.events i d).1 q (Err halt) at'' places''') → at''.count ≡ at'.count
     → IsErr result → IsErrAnd result (λ h. h ≡ halt) → IsAt first places p
     → HasGone (part_from first.held.app p schedule) (run_from first.held.app p schedule) result at'' places'''
@@ -132,7 +148,7 @@ halts_at first at at' at'' places places' places'' places''' schedule i d p done
     let (p', gone, here) = f.gone p is in
     let app : App = first.held.app in
     let e = slice_index_or schedule.events i d in
-    let (p'', went, there) = subst (λ (a : App). HasGone (λ k. steps a k p' at.count) (steps a (e.0 - at.count) p' at.count) (Ok done) at' places'') f.app (way p' here) in
+    let (p'', went, there) = subst (λ (a : App). HasGone (λ k. steps_before a e.0 k p' at.count) (steps a (e.0 - at.count) p' at.count) (Ok done) at' places'') f.app (way p' here) in
     subst (λ o. HasGone (part_from app p schedule) (run_from app p schedule) (Err o) at'' places''') (sym and)
     (by_halt halt p' p'' gone went (comes p'' there))
   where
@@ -157,14 +173,13 @@ halts_at first at at' at'' places places' places'' places''' schedule i d p done
         let e = slice_index_or schedule.events i d in
         let after = next_gone app schedule i d p p' p'' at.count at'.count h gone went full in (
           (suc i, 0),
-          seen ∙ ap (λ w. (state_of w).ports)
-              (sym (part_is app schedule (suc i) 0 p (after_event e.1 p'') at'.count after ∙ no_step app (after_event e.1 p'') at'.count)),
+          seen ∙ ap (λ w. (state_of w).ports) (sym (part_none app schedule (suc i) p (after_event e.1 p'') at'.count after)),
         )
 
 -- one event more
 pub follows : (first at at' at'' : Reached) (places places' places'' places''' : Places) (schedule : Schedule) (i : ℕ) (d : ℕ × Event) (done took : ⊤)
     → Following first places schedule i at places' → i < length schedule.events → (slice_index_or schedule.events i d).0 ≤ 100000000
-    → ((q : Plain) → IsAt at places' q → HasGone (λ k. steps at.held.app k q at.count) (steps at.held.app ((slice_index_or schedule.events i d).0 - at.count) q at.count) (Ok done) at' places'')
+    → ((q : Plain) → IsAt at places' q → HasGone (λ k. steps_before at.held.app (slice_index_or schedule.events i d).0 k q at.count) (steps at.held.app ((slice_index_or schedule.events i d).0 - at.count) q at.count) (Ok done) at' places'')
     → ((q : Plain) → IsAt at' places'' q → HasTaken (slice_index_or schedule.events i d).1 q (Ok took) at'' places''')
     → at'.count ≡ at.count + ((slice_index_or schedule.events i d).0 - at.count) → at''.count ≡ at'.count → at'.held.app ≡ at.held.app → at''.held.app ≡ at'.held.app
     → ((n : ℕ) → All (IsSound n) (tasks_of at.held.threads) → All (IsSound (n + ((slice_index_or schedule.events i d).0 - at.count))) (tasks_of at'.held.threads))
@@ -180,7 +195,7 @@ follows first at at' at'' places places' places'' places''' schedule i d done to
           (n + (e.0 - at.count) + 1, omega (arith, most, count, same), sound' (n + (e.0 - at.count)) (sound n all));
       gone = λ p is.
           let (p', gone, here) = f.gone p is in
-          let (p'', went, there) = subst (λ (a : App). HasGone (λ k. steps a k p' at.count) (steps a (e.0 - at.count) p' at.count) (Ok done) at' places'') f.app (way p' here) in
+          let (p'', went, there) = subst (λ (a : App). HasGone (λ k. steps_before a e.0 k p' at.count) (steps a (e.0 - at.count) p' at.count) (Ok done) at' places'') f.app (way p' here) in
           let (full, after) = comes p'' there in
           (after_event e.1 p'', next_gone first.held.app schedule i d p p' p'' at.count at'.count h gone went full ∙ ap (λ n. On (after_event e.1 p'') n) (sym same), after);
     }
@@ -188,13 +203,13 @@ follows first at at' at'' places places' places'' places''' schedule i d done to
 -- the way from the last event to the last count is the end of the run
 pub ends : (first at at' : Reached) (places places' places'' : Places) (schedule : Schedule) (i : ℕ) (p : Plain) (result : Result ⊤ Halt)
     → Following first places schedule i at places' → length schedule.events ≤ i
-    → ((q : Plain) → IsAt at places' q → HasGone (λ k. steps at.held.app k q at.count) (steps at.held.app (schedule.last - at.count) q at.count) result at' places'')
+    → ((q : Plain) → IsAt at places' q → HasGone (λ k. steps_before at.held.app schedule.last k q at.count) (steps at.held.app (schedule.last - at.count) q at.count) result at' places'')
     → IsAt first places p
     → HasGone (part_from first.held.app p schedule) (run_from first.held.app p schedule) result at' places''
 ends first at at' places places' places'' schedule i p result f h way is =
     let (p', gone, here) = f.gone p is in
     by_result result p' gone
-    (subst (λ (a : App). HasGone (λ k. steps a k p' at.count) (steps a (schedule.last - at.count) p' at.count) result at' places'') f.app (way p' here))
+    (subst (λ (a : App). HasGone (λ k. steps_before a schedule.last k p' at.count) (steps a (schedule.last - at.count) p' at.count) result at' places'') f.app (way p' here))
   where
     whole : (p' : Plain) → events first.held.app p 0 (take i schedule.events) ≡ On p' at.count
         → run_from first.held.app p schedule ≡ steps first.held.app (schedule.last - at.count) p' at.count
@@ -203,13 +218,13 @@ ends first at at' places places' places'' schedule i p result f h way is =
         ∙ ap (λ w. and_then w (λ q n. steps first.held.app (schedule.last - n) q n)) gone
 
     by_result : (r : Result ⊤ Halt) (p' : Plain) → events first.held.app p 0 (take i schedule.events) ≡ On p' at.count
-        → HasGone (λ k. steps first.held.app k p' at.count) (steps first.held.app (schedule.last - at.count) p' at.count) r at' places''
+        → HasGone (λ k. steps_before first.held.app schedule.last k p' at.count) (steps first.held.app (schedule.last - at.count) p' at.count) r at' places''
         → HasGone (part_from first.held.app p schedule) (run_from first.held.app p schedule) r at' places''
     by_result (Ok done) p' gone (q, went, there) = (q, whole p' gone ∙ went, there)
     by_result (Err FullHalt) p' gone (q, went, there) = (q, whole p' gone ∙ went, there)
     by_result (Err MisfitHalt) p' gone (q, went, there) = (q, whole p' gone ∙ went, there)
     by_result (Err NoMemory) p' gone (k, seen) =
-        ((i, k), seen ∙ ap (λ w. (state_of w).ports) (sym (part_is first.held.app schedule i k p p' at.count gone)))
+        ((i, k), seen ∙ ap (λ w. (state_of w).ports) (sym (part_is first.held.app schedule i k _ p p' at.count gone (next_last schedule i h))))
 
 -- ---- the same by an equal list of events
 
@@ -235,15 +250,20 @@ same_place first at places places' schedule i j e f = subst (λ k. Following fir
 pub whole_part : (app : App) (p : Plain) (schedule : Schedule) → (part : ℕ × ℕ) × (run_from app p schedule ≡ part_from app p schedule part)
 whole_part app p schedule =
     let k = length schedule.events in
-    let (more, same) = by_went (events app p 0 schedule.events) in
-    ((k, more), same ∙ ap (λ es. and_then (events app p 0 es) (λ q n. steps app more q n)) (sym (all_taken schedule.events k (omega arith))))
+    let (more, same) = by_went (events app p 0 schedule.events) in (
+      (k, more),
+      same
+          ∙ ap (λ es. and_then (events app p 0 es) (λ q n. steps_before app schedule.last more q n)) (sym (all_taken schedule.events k (omega arith)))
+          ∙ ap (λ m. and_then (events app p 0 (take k schedule.events)) (λ q n. steps_before app m more q n)) (sym (next_last schedule k (omega arith))),
+    )
   where
-    by_went : (went : Went) → (more : ℕ) × (and_then went (λ q n. steps app (schedule.last - n) q n) ≡ and_then went (λ q n. steps app more q n))
-    by_went (On q n) = (schedule.last - n, refl)
+    by_went : (went : Went) → (more : ℕ) × (and_then went (λ q n. steps app (schedule.last - n) q n) ≡ and_then went (λ q n. steps_before app schedule.last more q n))
+    by_went (On q n) =
+        let all : schedule.last - n ≡ min (schedule.last - n) (schedule.last - n) = omega arith in
+        (schedule.last - n, ap (λ k. steps app k q n) all)
     by_went (Full q n) = (0, refl)
     by_went (Misfit q n) = (0, refl)
 
 -- nothing of it
 pub no_part : (app : App) (p : Plain) (schedule : Schedule) → part_from app p schedule (0, 0) ≡ On p 0
-no_part app p schedule =
-    ap (λ went. and_then went (λ q n. steps app 0 q n)) (no_event app p 0) ∙ no_step app p 0
+no_part app p schedule = part_none app schedule 0 p p 0 (no_event app p 0)

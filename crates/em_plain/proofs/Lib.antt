@@ -3,3 +3,4 @@ pub mod Reached
 pub mod Advance
 pub mod Follow
 pub mod Within
+pub mod Parts

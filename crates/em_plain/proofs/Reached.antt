@@ -1,6 +1,7 @@
 -- Where the machine is after a step, and after an event.
 use Rattle.std.specs.Bool.{⊤}
-use Rattle.std.proofs.Common.{◌≡◌, ◌∙◌, ◌++◌, false, List, Option, Result, Ok, Err, IfErr, OnOk, sym, ap, subst, refl}
+use Rattle.std.proofs.Common.{◌≡◌, ◌∙◌, ◌++◌, false, List, Option, None, Result, Ok, Err, IsErr, IsErrAnd, append-nil, sym, ap, subst, refl}
+use Rattle.std.proofs.lemmas.Bool.{false≢true}
 use Rattle.em_base.specs.declared.events.Event.{Event}
 use Rattle.em_base.specs.declared.ids.TaskId.{TaskId}
 use Rattle.em_ports.specs.Ports.{Places}
@@ -11,7 +12,7 @@ use Rattle.em_gate.specs.Outcome.{Outcome, Works, Falls, Refuses, Ends, Gets, Bl
 use Rattle.em_gate.specs.State.{Plain, task_at}
 use Rattle.em_plain.specs.declared.machine.Halt.{Halt}
 use Rattle.em_plain.specs.declared.machine.Halt.TheVariants.{NoMemory}
-use Rattle.em_plain.specs.Reached.{HasTaken, IsAt, Reached}
+use Rattle.em_plain.specs.Reached.{HasTaken, Reached}
 use Rattle.em_plain.specs.Runs.{is_full}
 
 -- the line of a step stands behind the others
@@ -39,9 +40,12 @@ pub line_more : (p : Plain) (lines lines' : List Line) (line line' : Option Line
     → lines' ≡ p.lines ++ option_list line'
 line_more p lines lines' line line' e f g = g ∙ ap (λ xs. xs ++ option_list line) e ∙ ap (λ one. p.lines ++ option_list one) f
 
--- an event has come, where its line was put or memory ran out for it
-pub taken_by : (event : Event) (p : Plain) (result : Result ⊤ Halt) (at : Reached) (places : Places) → is_full p ≡ false
-    → IfErr result (λ halt. halt ≡ NoMemory) → OnOk result (IsAt at places (after_event event p)) → places ≡ (after_event event p).ports
-    → HasTaken event p result at places
-taken_by event p (Ok done) at places f e ok seen = (f, ok)
-taken_by event p (Err halt) at places f e ok seen = subst (λ h. HasTaken event p (Err h) at places) (sym e) (f, seen)
+-- no line more
+pub line_none : (p : Plain) (lines : List Line) (line : Option Line) → lines ≡ p.lines → None ≡ line → lines ≡ p.lines ++ option_list line
+line_none p lines line e f = e ∙ sym (append-nil p.lines) ∙ ap (λ one. p.lines ++ option_list one) f
+
+-- an event has come, and memory ran out for its line
+pub taken_part : (event : Event) (p : Plain) (result : Result ⊤ Halt) (at : Reached) (places : Places) → is_full p ≡ false
+    → IsErr result → IsErrAnd result (λ h. h ≡ NoMemory) → places ≡ (after_event event p).ports → HasTaken event p result at places
+taken_part event p (Ok done) at places f err and seen = absurd (false≢true err)
+taken_part event p (Err halt) at places f err and seen = subst (λ h. HasTaken event p (Err h) at places) (sym and) (f, seen)

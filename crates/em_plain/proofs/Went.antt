@@ -1,5 +1,5 @@
 -- How far the plain machine goes, one part after the other.
-use Rattle.std.proofs.Common.{◌≡◌, ◌∙◌, ℕ, zero, suc, ◌+◌, ◌-◌, ◌++◌, if◌then◌else◌, Bool, true, false, List, [], ◌∷◌, Option, None, Some, ap, refl, arith}
+use Rattle.std.proofs.Common.{◌≡◌, ◌∙◌, ◌≤◌, ℕ, zero, suc, ◌+◌, ◌-◌, ◌++◌, if◌then◌else◌, Bool, true, false, List, [], ◌∷◌, Option, None, Some, sym, ap, refl, arith}
 use Rattle.em_base.specs.declared.apps.App.{App}
 use Rattle.em_base.specs.declared.events.Event.{Event}
 use Rattle.em_gate.specs.Effects.{after_step}
@@ -13,6 +13,18 @@ pub and_then_again : (went : Went) (f g : Plain → ℕ → Went) → and_then (
 and_then_again (On p count) f g = refl
 and_then_again (Full p count) f g = refl
 and_then_again (Misfit p count) f g = refl
+
+-- one thing, and then the same by another name
+pub and_then_same : (went : Went) (f g : Plain → ℕ → Went) → ((p : Plain) (count : ℕ) → f p count ≡ g p count) → and_then went f ≡ and_then went g
+and_then_same (On p count) f g same = same p count
+and_then_same (Full p count) f g same = refl
+and_then_same (Misfit p count) f g same = refl
+
+-- one thing, and then no more
+pub and_no_more : (went : Went) → and_then went (λ p count. On p count) ≡ went
+and_no_more (On p count) = refl
+and_no_more (Full p count) = refl
+and_no_more (Misfit p count) = refl
 
 -- by what it came to, where a step is left
 abbrev step_by : App → ℕ → Plain → ℕ → Option ℕ → Went
@@ -40,6 +52,39 @@ steps_add app (suc k) j p count =
     by_full more true selected = refl
     by_full more false None = refl
     by_full more false (Some t) = more t
+
+-- after so many steps the count is higher by as many
+steps_counted : (app : App) (k : ℕ) (p : Plain) (count : ℕ) (f : Plain → ℕ → Went)
+    → and_then (steps app k p count) f ≡ and_then (steps app k p count) (λ q n. f q (count + k))
+unfolding steps
+steps_counted app zero p count f =
+    let same : count ≡ count + 0 = omega arith in
+    ap (λ n. f p n) same
+steps_counted app (suc k) p count f =
+    by_full (λ t. steps_counted app k (after_step app.table app.image.words (record { 0 = t }) p) (suc count) f) (is_full p) (plain_selected app.table.tasks p)
+  where
+    by_full : ((t : ℕ) → and_then (step_by app k p count (Some t)) f ≡ and_then (step_by app k p count (Some t)) (λ q n. f q (suc count + k)))
+        → (full : Bool) (selected : Option ℕ)
+        → and_then (move_by app k p count full selected) f ≡ and_then (move_by app k p count full selected) (λ q n. f q (count + suc k))
+    by_full more true selected = refl
+    by_full more false None = refl
+    by_full more false (Some t) =
+        let same : suc count + k ≡ count + suc k = omega arith in
+        more t ∙ ap (λ m. and_then (step_by app k p count (Some t)) (λ q n. f q m)) same
+
+-- steps up to a count, and some of them first
+pub steps_ahead : (app : App) (target j : ℕ) (p : Plain) (count : ℕ) (f : Plain → ℕ → Went) → j ≤ target - count
+    → and_then (steps app (target - count) p count) f ≡ and_then (steps app j p count) (λ q n. and_then (steps app (target - n) q n) f)
+steps_ahead app target j p count f h =
+    let left = target - count - j in
+    let parts : target - count ≡ j + (target - count - j) = omega (arith, h) in
+    let same : target - count - j ≡ target - (count + j) = omega arith in
+    ap (λ k. and_then (steps app k p count) f) parts
+    ∙ ap (λ went. and_then went f) (steps_add app j left p count)
+    ∙ and_then_again (steps app j p count) (λ q n. steps app left q n) f
+    ∙ steps_counted app j p count (λ q n. and_then (steps app left q n) f)
+    ∙ ap (λ k. and_then (steps app j p count) (λ q n. and_then (steps app k q (count + j)) f)) same
+    ∙ sym (steps_counted app j p count (λ q n. and_then (steps app (target - n) q n) f))
 
 -- a step that is left where the trace is full
 pub stops_full : (app : App) (n : ℕ) (p : Plain) (count : ℕ) → is_full p ≡ true → steps app (suc n) p count ≡ Full p count
@@ -69,6 +114,10 @@ no_event app p count = refl
 
 abbrev event_by : App → (ℕ × Event) → List (ℕ × Event) → Plain → ℕ → Bool → Went
 event_by app e rest p count full = if full then Full p count else events app (after_event e.1 p) count rest
+
+-- what comes where there are steps no more: an event, unless the trace is full, and those behind it
+abbrev pub takes : App → ℕ × Event → List (ℕ × Event) → Plain → ℕ → Went
+takes app e rest p count = if is_full p then Full p count else events app (after_event e.1 p) count rest
 
 -- an event, and those behind it
 pub next_event : (app : App) (p : Plain) (count : ℕ) (e : ℕ × Event) (rest : List (ℕ × Event))

@@ -22,7 +22,7 @@ IsFailOf (Misfit p count) (MisfitFail n) = n ≡ count
 IsFailOf (On p count) (MisfitFail n) = ⊥
 IsFailOf (Full p count) (MisfitFail n) = ⊥
 
--- the ports after some of the events of a schedule, and some steps
+-- the ports of a state that the run passes: after some of the events of its schedule, and some of the steps up to what comes next
 abbrev pub ArePartWay : App → Schedule → Places → Places → Type 0
 ArePartWay app schedule before after =
     (part : ℕ × ℕ) × (after ≡ (state_of (part_from app (boot app before) schedule part)).ports)

@@ -1,6 +1,6 @@
 -- The plain run: the machine of plain priority inheritance under a schedule, which says after how many steps each event comes. It has no
 -- clock, no charge and no promise. This project's own.
-use Rattle.std.specs.Prelude.{ℕ, zero, suc, ◌-◌, Bool, nat_le, List, [], ◌∷◌, length, take, None, Some, if◌then◌else◌}
+use Rattle.std.specs.Prelude.{ℕ, zero, suc, ◌-◌, min, Bool, nat_le, List, [], ◌∷◌, length, take, drop, None, Some, if◌then◌else◌}
 use Rattle.em_base.specs.declared.apps.App.{App}
 use Rattle.em_base.specs.declared.events.Event.{Event}
 use Rattle.em_base.specs.declared.events.Schedule.{Schedule}
@@ -56,10 +56,25 @@ abbrev pub run_from : App → Plain → Schedule → Went
 run_from app p schedule =
     and_then (events app p 0 schedule.events) (λ p' count. steps app (schedule.last - count) p' count)
 
--- the first so many events, and so many steps more
+-- so many steps, but none past this count
+abbrev pub steps_before : App → ℕ → ℕ → Plain → ℕ → Went
+steps_before app next k p count = steps app (min k (next - count)) p count
+
+-- the count up to which there are steps before the first of these events, or before the end
+abbrev pub next_count : List (ℕ × Event) → ℕ → ℕ
+next_count [] last = last
+next_count (e ∷ rest) last = e.0
+
+-- the first so many events, and so many steps more, but none past the next event or the last count
 abbrev pub part_from : App → Plain → Schedule → ℕ × ℕ → Went
 part_from app p schedule part =
-    and_then (events app p 0 (take part.0 schedule.events)) (λ p' count. steps app part.1 p' count)
+    let next = next_count (drop part.0 schedule.events) schedule.last in
+    and_then (events app p 0 (take part.0 schedule.events)) (λ p' count. steps_before app next part.1 p' count)
+
+-- from a state on, to which the first so many events and maybe steps have led: the other events, and then steps up to the last count
+abbrev pub rest_from : App → Schedule → ℕ → Plain → ℕ → Went
+rest_from app schedule i p count =
+    and_then (events app p count (drop i schedule.events)) (λ p' count'. steps app (schedule.last - count') p' count')
 
 -- the plain run, from the boot on
 abbrev pub plain_run : App → Places → Schedule → Went

@@ -5,5 +5,5 @@ mod laws;
 mod machine;
 mod running;
 
-pub use laws::whole_run;
+pub use laws::{passes_parts, whole_run};
 pub use running::{PlainFail, PlainRun, run};

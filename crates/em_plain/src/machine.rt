@@ -1,29 +1,22 @@
 //! The machine of a plain run: what it has, and how far it goes.
-ghost use Rattle.std.specs.Prelude.{◌≡◌, ◌<◌, ◌≤◌, ◌+◌, ◌-◌, ◌++◌, ◌^◌, ℕ, [], List, All, length, Option, Some, IfOk, IfErr, OnOk};
+ghost use Rattle.std.specs.Prelude.{◌≡◌, ◌<◌, ◌≤◌, ◌+◌, ◌-◌, ◌^◌, ℕ, [], All, length, Some, IfOk, OnOk};
 ghost use Rattle.em_base.specs.Apps.{IsApp};
 ghost use Rattle.em_ports.specs.Ports.{Places};
 ghost use Rattle.em_gate.specs.Boot.{boot};
 ghost use Rattle.em_gate.specs.Effects.{after_step};
 ghost use Rattle.em_gate.specs.Events.{after_event};
 ghost use Rattle.em_gate.specs.State.{Plain};
-ghost use Rattle.em_base.specs.declared.ids.SemId.{SemId as Semaphore};
-ghost use Rattle.em_hart.specs.declared.answers.Class.{Class as InstructionClass};
-ghost use Rattle.em_hart.specs.declared.answers.Stepped.{Stepped as Taken};
-ghost use Rattle.em_gate.specs.Selecting.{plain_selected};
-ghost use Rattle.em_system.specs.Held.{Holds, selected_of, tasks_of};
-ghost use Rattle.em_system.specs.Standings.{number_of};
+ghost use Rattle.em_system.specs.Held.{tasks_of};
 ghost use Rattle.em_system.specs.Possible.{IsPossible};
 ghost use Rattle.em_system.specs.Sound.{IsSound};
 ghost use Rattle.em_plain.specs.Reached.{HasGone, HasTaken, IsAt};
 ghost use Rattle.em_plain.specs.Runs as spec;
 ghost use Rattle.em_plain.specs.Runs.{Went};
-ghost use Rattle.em_plain.specs.declared.machine.Halt.TheVariants.{NoMemory as OutOfMemory};
-ghost use Rattle.em_gate.specs.Effects.{option_list};
 
 use em_base::{App, Event, Items, NoMemory, TaskId};
 use em_hart::Stepped;
 use em_ports::{Ports, Seen};
-use em_system::System;
+use em_system::{System, put_line};
 use em_trace::Line;
 use std::alloc::Global;
 use std::marker::Model;
@@ -126,7 +119,7 @@ impl<'a> Machine<'a> {
     }
 
     /// The selected task takes a step.
-    fn step(&mut self, alloc: Global, t: TaskId, ports: &mut Ports) -> Result<(), Halt>
+    fn step(&mut self, alloc: Global, t: TaskId, ports: &mut Ports) -> Result<(), NoMemory>
         requires selected { self.old.selected ≡ Some t }
         requires early { self.old.count < 2 ^ 63 }
         requires sound { (n : ℕ) × (n < 2 ^ 63) × All (IsSound n) (tasks_of self.old.held.threads) }
@@ -134,16 +127,23 @@ impl<'a> Machine<'a> {
             (p : Plain) → IsAt self.old (seen ports.old) p
             → let app = self.old.held.app in let after = after_step app.table app.image.words t p in
             OnOk result (IsAt self.new (seen ports.new) after) × (seen ports.new ≡ after.ports) }
-        ensures memory { IfErr result (λ halt. halt ≡ OutOfMemory) }
         ensures count { self.new.count ≡ self.old.count + 1 }
         ensures app { self.new.held.app ≡ self.old.held.app }
         ensures sound { (n : ℕ) → All (IsSound n) (tasks_of self.old.held.threads)
             → All (IsSound (n + 1)) (tasks_of self.new.held.threads) }
     {
-        let (stepped, line) = self.system.step(t, ports);
+        // Counted first, so that nothing is written between the step and the look at what it was: the line is loaded where there is
+        // one alone.
         self.count += 1;
-        self.selected = selected_after(&mut self.system, stepped, self.selected);
-        put_line(alloc, &mut self.lines, &line)
+        let (stepped, line) = self.system.step(t, ports);
+        match stepped {
+            // After an instruction the same task is selected, and there is no line.
+            Stepped::Ran(_) => Ok(()),
+            Stepped::Call | Stepped::Fault(_) => {
+                self.selected = self.system.select();
+                put_line(alloc, &mut self.lines, &line)
+            }
+        }
     }
 
     /// An event comes, unless the trace is full.
@@ -163,7 +163,7 @@ impl<'a> Machine<'a> {
         }
         let line = self.system.happen(event, ports);
         self.selected = self.system.select();
-        put_line(alloc, &mut self.lines, &line)
+        Ok(put_line(alloc, &mut self.lines, &line)?)
     }
 
     /// The machine goes on until so many steps were taken.
@@ -172,8 +172,10 @@ impl<'a> Machine<'a> {
             (n : ℕ) × (n + count < 2 ^ 63) × All (IsSound n) tasks }
         ensures advance { let seen = ⟦<Ports as Seen>⟧.seen_as in
             (p : Plain) → IsAt self.old (seen ports.old) p
-            → let went : ℕ → Went = λ k. spec.steps self.old.held.app k p self.old.count in
-            HasGone went (went (count - self.old.count)) result self.new (seen ports.new) }
+            → let app = self.old.held.app in let before = self.old.count in
+            let went : ℕ → Went = λ k. spec.steps_before app count k p before in
+            let whole = spec.steps app (count - before) p before in
+            HasGone went whole result self.new (seen ports.new) }
         ensures count { OnOk result (self.new.count ≡ self.old.count + (count - self.old.count)) }
         ensures app { self.new.held.app ≡ self.old.held.app }
         ensures sound { (n : ℕ) → All (IsSound n) (tasks_of self.old.held.threads)
@@ -189,34 +191,5 @@ impl<'a> Machine<'a> {
             self.step(alloc, t, ports)?;
         }
         Ok(())
-    }
-}
-
-/// Puts the line of a step or an event at the end, where it has one. It is borrowed, so that a line that isn't there isn't moved.
-fn put_line(alloc: Global, lines: &mut Items<Line>, line: &Option<Line>) -> Result<(), Halt>
-    ensures memory { IfErr result (λ halt. halt ≡ OutOfMemory) }
-    ensures put { OnOk result (lines.new ≡ lines.old ++ option_list line.now) }
-{
-    match line {
-        None => Ok(()),
-        Some(line) => Ok(lines.push(alloc, *line)?),
-    }
-}
-
-/// The task that is selected after a step, of which this one was selected before: the same after an instruction.
-fn selected_after(system: &mut System, stepped: Stepped, before: Option<TaskId>) -> Option<TaskId>
-    requires sound { (n : ℕ) × All (IsSound n) (tasks_of system.old.threads) }
-    requires same { (class : InstructionClass) → stepped ≡ Taken.Ran class
-        → number_of before ≡ selected_of system.old }
-    ensures selected { number_of result ≡ selected_of system.new }
-    ensures same { system.new ≡ system.old }
-    ensures plain { (p : Plain) (promises : List (Option Semaphore)) → Holds system.old p promises
-        → let selected = plain_selected system.old.app.table.tasks p in
-        ((class : InstructionClass) → stepped ≡ Taken.Ran class → number_of before ≡ selected)
-        → number_of result ≡ selected }
-{
-    match stepped {
-        Stepped::Ran(_) => before,
-        Stepped::Call | Stepped::Fault(_) => system.select(),
     }
 }

@@ -40,11 +40,12 @@ pub enum PlainFail {
 }
 
 /// Runs an application under a schedule for its tasks on the plain machine, for an application without messages and without
-/// hints: each event comes after as many steps as it says, and the run ends after as many as the schedule says last. `count` is how many steps
-/// were taken, and `full` says that the run ended before, since the trace had 1,000,000 lines.
+/// hints: each event comes after as many steps as it says, and the run ends after as many as the schedule says last. `count` is
+/// how many steps were taken, and `full` says that the run ended before, since the trace had 1,000,000 lines.
 ///
 /// `Misfit` exactly where a step is asked and no task is selected, with the number of steps that were taken. `NoMemory` where
-/// memory runs out; the ports are then those after some of the events and some steps, and else those where the run stops.
+/// memory runs out; the ports are then those that the run passes after some of the events and some of the steps up to what
+/// comes next, and else those where the run stops.
 pub fn run(
     alloc: Global,
     app: &App,
@@ -92,7 +93,8 @@ fn follow(
         let whole = run_from app p schedule.now in
         HasGone (part_from app p schedule.now) whole result machine.new (seen ports.new) }
 {
-    for (count, event) in schedule.events.as_slice() {
+    let events = schedule.events.as_slice();
+    for (count, event) in events {
         machine.advance(alloc, *count, ports)?;
         machine.take(alloc, *event, ports)?;
     }

@@ -14,9 +14,9 @@ loop-count-init g c = begins c.args.machine.now _ c.args.schedule.now c.requires
 pub returns-in_err-advance : goal.returns-in_err-advance
 returns-in_err-advance g c = record {
   follow = λ p is.
-      let items = c.as_slice-count-items.result.now in
+      let items = c.as_slice-events.result.now in
       let last = c.args.schedule.now.last in
-      let same = c.as_slice-count-items.ensures in
+      let same = c.as_slice-events.ensures in
       let i = c.loop-count.count-index in
       let app = c.args.machine.now.held.app in
       let so_far = same_following c.args.machine.now c.loop-count.machine _ _ c.args.schedule.now.events items last i (sym same) c.loop-count.invariant in
@@ -28,23 +28,23 @@ returns-in_err-advance g c = record {
 
 pub take-requires-clause-sound : goal.take-requires-clause-sound
 take-requires-clause-sound g c =
-    let items = c.as_slice-count-items.result.now in
-    let same = c.as_slice-count-items.ensures in
+    let items = c.as_slice-events.result.now in
+    let same = c.as_slice-events.ensures in
     let i = c.loop-count.count-index in
     let (n, most, all) = c.loop-count.invariant.sound in
     let few : (slice_index_or items i none).0 ≤ 100000000 =
     subst (λ es. (slice_index_or es i none).0 ≤ 100000000) (sym same) (c.requires.counts i none (subst (λ es. i < length es) same c.loop-count-test.true)) in (
       n + ((slice_index_or items i none).0 - c.loop-count.machine.count),
-      omega (arith, few, most, c.loop-count.invariant.early, c.loop-count-test.true, c.as_slice-count-items.type_inv.1),
+      omega (arith, few, most, c.loop-count.invariant.early, c.loop-count-test.true, c.as_slice-events.type_inv.1),
       c.advance.ensures.sound n all,
     )
 
 pub returns-in_err-take : goal.returns-in_err-take
 returns-in_err-take g c = record {
   follow = λ p is.
-      let items = c.as_slice-count-items.result.now in
+      let items = c.as_slice-events.result.now in
       let last = c.args.schedule.now.last in
-      let same = c.as_slice-count-items.ensures in
+      let same = c.as_slice-events.ensures in
       let i = c.loop-count.count-index in
       let app = c.args.machine.now.held.app in
       let so_far = same_following c.args.machine.now c.loop-count.machine _ _ c.args.schedule.now.events items last i (sym same) c.loop-count.invariant in
@@ -56,9 +56,9 @@ returns-in_err-take g c = record {
 
 pub loop-count-preserved : goal.loop-count-preserved
 loop-count-preserved g c =
-    let items = c.as_slice-count-items.result.now in
+    let items = c.as_slice-events.result.now in
     let last = c.args.schedule.now.last in
-    let same = c.as_slice-count-items.ensures in
+    let same = c.as_slice-events.ensures in
     let i = c.loop-count.count-index in
     let few : (slice_index_or items i none).0 ≤ 100000000 =
     subst (λ es. (slice_index_or es i none).0 ≤ 100000000) (sym same) (c.requires.counts i none (subst (λ es. i < length es) same c.loop-count-test.true)) in
@@ -73,7 +73,7 @@ loop-count-preserved g c =
 pub returns : goal.returns
 returns g c = record {
   follow = λ p is.
-      let same = c.as_slice-count-items.ensures in
+      let same = c.as_slice-events.ensures in
       ends c.args.machine.now c.loop-count.machine c.advance-2.new.self _ _ _ c.args.schedule.now c.loop-count.count-index p c.advance-2.result c.loop-count.invariant
       (subst (λ es. length es ≤ c.loop-count.count-index) same c.loop-count-test.false) c.advance-2.ensures.advance is;
 }

@@ -36,9 +36,10 @@ loop-self-preserved g c =
 
 pub returns-in_err-step-clause-advance : goal.returns-in_err-step-clause-advance
 returns-in_err-step-clause-advance g c = λ p is.
-    halts_part c.args.self.now c.loop-self.self c.step.new.self _ _ _ c.args.count p c.in-Some.t c.from_residual.result c.in_err-step.field-0.0 c.loop-self.invariant
+    halts_part c.args.self.now c.loop-self.self c.step.new.self _ _ _ c.args.count p c.in-Some.t c.from_residual.result c.loop-self.invariant
+    (subst (λ (m : Reached). m.count < c.args.count) c.self.view_is c.loop-self-test.true)
     (λ q seen at. c.if-is_full.ensures q seen at) (ap (λ (m : Reached). m.selected) (sym c.self.view_is) ∙ c.in-Some.is)
-    (λ q at. (c.step.ensures.step q at).1) c.in_err-step.ensures.memory c.from_residual.ensures.0 c.from_residual.ensures.1 is
+    (λ q at. (c.step.ensures.step q at).1) c.from_residual.ensures.0 c.from_residual.ensures.1 is
 
 pub returns-in_err-step-clause-sound : goal.returns-in_err-step-clause-sound
 returns-in_err-step-clause-sound g c = λ n sound.

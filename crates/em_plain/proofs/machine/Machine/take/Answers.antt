@@ -1,8 +1,6 @@
-use Rattle.std.proofs.Common.{OnOk, ◌≡◌, ◌∙◌, ◌+◌, ◌++◌, All, map, sym, ap, subst}
-use Rattle.std.proofs.lemmas.Result.{on_ok_weaker}
+use Rattle.std.proofs.Common.{◌∙◌, ◌+◌, All, map, sym, ap, subst}
 use Rattle.std.specs.Option.{option_map}
 use Rattle.em_ports.specs.Ports.{Places}
-use Rattle.em_gate.specs.Effects.{option_list}
 use Rattle.em_gate.specs.Events.{after_event, event_line}
 use Rattle.em_gate.specs.Selecting.{plain_selected}
 use Rattle.em_gate.specs.State.{Plain}
@@ -10,7 +8,7 @@ use Rattle.em_system.specs.Held.{Held, Holds, selected_of, tasks_of}
 use Rattle.em_system.specs.Promises.{promises_after_event}
 use Rattle.em_system.specs.Sound.{IsSound}
 use Rattle.em_plain.specs.Reached.{IsAt, Reached}
-use Rattle.em_plain.proofs.Reached.{line_more, lines_of_event, taken_by}
+use Rattle.em_plain.proofs.Reached.{line_more, lines_of_event, taken_part}
 use Rattle.em_plain.proofs.machine.Machine.take.Goals as goal
 
 pub returns-then-is_full-clause-take : goal.returns-then-is_full-clause-take
@@ -26,6 +24,26 @@ pub invariant_of-self : goal.invariant_of-self
 invariant_of-self g c =
     c.select-self-inside.ensures.selected ∙ ap (λ (h : Held). selected_of h) (sym c.select-self-inside.ensures.same)
 
+pub invariant_of-self-2 : goal.invariant_of-self-2
+invariant_of-self-2 g c =
+    c.select-self-inside.ensures.selected ∙ ap (λ (h : Held). selected_of h) (sym c.select-self-inside.ensures.same)
+
+pub returns-in_err-put_line-clause-sound : goal.returns-in_err-put_line-clause-sound
+returns-in_err-put_line-clause-sound g c = λ n sound.
+    let now = subst (λ (m : Reached). All (IsSound n) (tasks_of m.held.threads)) (sym c.self.view_is) sound in
+    subst (λ (h : Held). All (IsSound (n + 1)) (tasks_of h.threads)) (sym c.select-self-inside.ensures.same) (c.happen-line.ensures.sound n now)
+
+pub returns-in_err-put_line-clause-take : goal.returns-in_err-put_line-clause-take
+returns-in_err-put_line-clause-take g c = λ p at.
+    let seen : Places = map (option_map (λ b. record {
+      kind = (goal.Port-dyn g (b.vtable, b.value)).kind_of b.value;
+      value = (goal.Port-dyn g (b.vtable, b.value)).shown_value b.value;
+    })) c.args.ports.now.slots.items in
+    let inside : Reached = record { held = c.self.inside.system; selected = c.self.inside.selected; lines = c.self.inside.lines; count = c.self.inside.count } in
+    let here : IsAt inside seen p = subst (λ (m : Reached). IsAt m seen p) (sym c.self.view_is) at in
+    let done = c.happen-line.ensures.step p here.promises here.holds here.ports in
+    taken_part c.args.event p c.from_residual.result _ _ (sym (c.if-is_full.ensures p seen at)) c.from_residual.ensures.0 c.from_residual.ensures.1 done.1
+
 pub returns-clause-sound : goal.returns-clause-sound
 returns-clause-sound g c = λ n sound.
     let now = subst (λ (m : Reached). All (IsSound n) (tasks_of m.held.threads)) (sym c.self.view_is) sound in
@@ -37,10 +55,6 @@ returns-clause-take g c = λ p at.
       kind = (goal.Port-dyn g (b.vtable, b.value)).kind_of b.value;
       value = (goal.Port-dyn g (b.vtable, b.value)).shown_value b.value;
     })) c.args.ports.now.slots.items in
-    let seen_after : Places = map (option_map (λ b. record {
-      kind = (goal.Port-dyn g (b.vtable, b.value)).kind_of b.value;
-      value = (goal.Port-dyn g (b.vtable, b.value)).shown_value b.value;
-    })) c.happen-line.new.ports.slots.items in
     let inside : Reached = record { held = c.self.inside.system; selected = c.self.inside.selected; lines = c.self.inside.lines; count = c.self.inside.count } in
     let here : IsAt inside seen p = subst (λ (m : Reached). IsAt m seen p) (sym c.self.view_is) at in
     let event = c.args.event in
@@ -48,15 +62,13 @@ returns-clause-take g c = λ p at.
     let promises = promises_after_event c.self.inside.system.app event p here.promises in
     let done = c.happen-line.ensures.step p here.promises here.holds here.ports in
     let line = c.happen-line.result in
-    let same = c.select-self-inside.ensures.same in
-    let system = c.select-self-inside.new.self in
-    let reached : Reached = record { held = system; selected = c.select-self-inside.result; lines = c.put_line.new.lines; count = c.self.inside.count } in
-    let reaches : OnOk c.put_line.result (IsAt reached seen_after after) =
-    on_ok_weaker c.put_line.result (λ (e : c.put_line.new.lines ≡ c.self.inside.lines ++ option_list line). record {
-      promises = promises;
-      holds = subst (λ (h : Held). Holds h after promises) (sym same) done.0;
-      ports = done.1;
-      lines = line_more p c.self.inside.lines c.put_line.new.lines line (event_line event p) here.lines done.2 e ∙ lines_of_event event p;
-      selects = c.select-self-inside.ensures.plain after promises done.0 ∙ ap (λ (h : Held). plain_selected h.app.table.tasks after) (sym same);
-    }) c.put_line.ensures.put in
-    taken_by event p c.put_line.result reached seen_after (sym (c.if-is_full.ensures p seen at)) c.put_line.ensures.memory reaches done.1
+    let same = c.select-self-inside.ensures.same in (
+      sym (c.if-is_full.ensures p seen at),
+      record {
+        promises = promises;
+        holds = subst (λ (h : Held). Holds h after promises) (sym same) done.0;
+        ports = done.1;
+        lines = line_more p c.self.inside.lines c.put_line.new.lines line (event_line event p) here.lines done.2 c.in_ok-put_line.ensures ∙ lines_of_event event p;
+        selects = c.select-self-inside.ensures.plain after promises done.0 ∙ ap (λ (h : Held). plain_selected h.app.table.tasks after) (sym same);
+      },
+    )
