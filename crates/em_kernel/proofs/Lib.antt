@@ -6,3 +6,4 @@ pub mod Settling
 pub mod NextStep
 pub mod Booted
 pub mod Shown
+pub mod EventCounts

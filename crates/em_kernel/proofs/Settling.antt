@@ -4,14 +4,12 @@ use Rattle.em_base.specs.declared.apps.App.{App}
 use Rattle.em_base.specs.declared.events.Timed.{Timed}
 use Rattle.em_base.specs.declared.ids.TaskId.{TaskId}
 use Rattle.em_base.specs.Selection.{selected}
-use Rattle.em_hart.specs.declared.answers.Class.{Class}
-use Rattle.em_hart.specs.declared.answers.Stepped.TheVariants.{Ran as RanStep, Call as CallStep, Fault as FaultStep}
 use Rattle.em_ports.specs.Ports.{Places}
 use Rattle.em_trace.specs.declared.lines.Line.{Line}
 use Rattle.em_gate.specs.Effects.{after_outcome, gives, line_by, option_list, values_after}
 use Rattle.em_gate.specs.Outcome.{Outcome, Works, Falls, Refuses, Ends, Gets, Blocks, Frees, Puts, Publishes, Fetches, Signals, Leaves, outcome}
 use Rattle.em_gate.specs.Selecting.{scene_in}
-use Rattle.em_gate.specs.State.{Counted, Plain, Task, task_at}
+use Rattle.em_gate.specs.State.{Counted, Plain, task_at}
 use Rattle.em_demand.specs.Charges.{charges_of}
 use Rattle.em_kernel.specs.declared.did.StepKind.{StepKind}
 use Rattle.em_kernel.specs.declared.did.What.TheVariants.{Stepped}
@@ -21,7 +19,6 @@ use Rattle.em_kernel.specs.Metered.{metered, with_one, with_switch}
 use Rattle.em_system.specs.Promises.{promises_after}
 use Rattle.em_system.specs.Standings.{number_of}
 use Rattle.em_system.specs.Held.{Held, Holds, promises_of, selected_of, tasks_of}
-use Rattle.em_system.specs.Taken.{stepped_of}
 use Rattle.em_kernel.specs.Step.{current_after, is_switch, kind_of, ran, step_charge, stepped}
 use Rattle.em_kernel.proofs.Steps.{did_of, keeps, lines_counted, settles_by}
 
@@ -108,30 +105,6 @@ metered_same meter cost sw h =
     sym (ap (λ b. meter_of (meter.clock + with_switch b cost sw) (current_after meter.current (number_of meter.selected)) meter.selected meter.count
     (if b then meter.switches + 1 else meter.switches)) still
     ∙ ap (λ now. meter_of (meter.clock + cost) now meter.selected meter.count meter.switches) (same_current meter.selected meter.current h))
-
--- ---- the line of an instruction
-
-not_ran : (class : Class) → CallStep ≡ RanStep class → ⊥
-not_ran class e = cc
-
-not_fallen : (cause : ℕ) (class : Class) → FaultStep cause ≡ RanStep class → ⊥
-not_fallen cause class e = cc
-
--- an instruction gives no line
-pub line_of_ran : (o : Outcome) (class : Class) (t : TaskId) (task : Task) (p : Plain) → stepped_of o ≡ RanStep class → None ≡ line_by o t task p
-unfolding line_by
-line_of_ran (Works class' core shared) class t task p e = refl
-line_of_ran (Falls cause) class t task p e = absurd (not_fallen cause class e)
-line_of_ran (Refuses code) class t task p e = absurd (not_ran class e)
-line_of_ran Ends class t task p e = absurd (not_ran class e)
-line_of_ran (Gets s) class t task p e = absurd (not_ran class e)
-line_of_ran (Blocks s) class t task p e = absurd (not_ran class e)
-line_of_ran (Frees s) class t task p e = absurd (not_ran class e)
-line_of_ran (Puts port word) class t task p e = absurd (not_ran class e)
-line_of_ran (Publishes m at count) class t task p e = absurd (not_ran class e)
-line_of_ran (Fetches m at) class t task p e = absurd (not_ran class e)
-line_of_ran (Signals u word) class t task p e = absurd (not_ran class e)
-line_of_ran Leaves class t task p e = absurd (not_ran class e)
 
 -- what is held selects the same by an equal application
 pub by_app : (held : Held) (app : App) → held.app ≡ app

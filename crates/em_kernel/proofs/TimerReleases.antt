@@ -121,7 +121,8 @@ releases-possible Background horizon tasks n row h low suited = All-nil (λ even
 abbrev by_timers : ℕ → ℕ → List TaskRow → List Timed
 by_timers horizon n rows = flat_map (λ task. releases_by task.1.kind horizon task) (enumerate_from n rows)
 
-rows-few : (horizon semaphores n : ℕ) (rows : List TaskRow) → All (IsTask semaphores) rows → length (by_timers horizon n rows) ≤ sum_by (releases_of horizon) rows
+-- no more than their periods cause
+pub rows-few : (horizon semaphores n : ℕ) (rows : List TaskRow) → All (IsTask semaphores) rows → length (by_timers horizon n rows) ≤ sum_by (releases_of horizon) rows
 rows-few horizon semaphores n [] h = omega arith
 rows-few horizon semaphores n (row ∷ rows) h =
     let suited = (All-head (IsTask semaphores) row rows h).suited in

@@ -1,5 +1,5 @@
 //! The kernel before anything has happened.
-ghost use Rattle.std.specs.Prelude.{◌≡◌, [], IfOk};
+ghost use Rattle.std.specs.Prelude.{◌≡◌, ◌≤◌, [], length, IfOk};
 ghost use Rattle.em_base.specs.Apps.{IsApp};
 ghost use Rattle.em_ports.specs.Ports.{Places};
 ghost use Rattle.em_kernel.specs.Kept.{Stands};
@@ -25,6 +25,7 @@ impl<'a> Kernel<'a> {
             → IfOk result (λ kernel. Stands kernel places (counted_boot app.now places)) }
         ensures app { IfOk result (λ kernel. kernel.app ≡ app.now) }
         ensures switches { IfOk result (λ kernel. kernel.switches ≡ 0) }
+        ensures few { IfOk result (λ kernel. length kernel.left ≤ 300000) }
     {
         Ok(Kernel {
             system: System::boot(alloc, app)?,

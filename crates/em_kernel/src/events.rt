@@ -1,7 +1,7 @@
 //! The events of an application, in order of time.
-ghost use Rattle.std.specs.Prelude.{◌≡◌, ◌<◌, ◌≤◌, ◌++◌, nat_lt, length, map, filter, Some, All, IfOk, OnOk};
+ghost use Rattle.std.specs.Prelude.{◌≡◌, ◌<◌, ◌≤◌, ◌++◌, nat_lt, length, map, filter, Some, All, IfOk, IfSome, OnOk};
 ghost use Rattle.em_base.specs.Apps.{IsApp};
-ghost use Rattle.em_base.specs.Tables.{IsTable, SuitsKind};
+ghost use Rattle.em_base.specs.Tables.{IsTable, SuitsKind, releases_of};
 ghost use Rattle.em_gate.specs.Events.{events_of, releases_by, timer_release, timer_releases, timer_times};
 ghost use Rattle.em_system.specs.Possible.{IsPossible};
 
@@ -20,6 +20,31 @@ fn release_at(task: TaskId, time: u64) -> Timed
             word: 0,
         },
     }
+}
+
+/// How many releases the period of a task causes below a horizon, at most.
+fn releases(row: &TaskRow, horizon: u32) -> usize
+    requires period { IfSome row.now.period (λ period. 0 < period) }
+    ensures releases { result ≡ releases_of horizon row.now }
+{
+    match row.period {
+        Some(period) => horizon.div_ceil(period) as usize,
+        None => 0,
+    }
+}
+
+/// As many events as an application has, or more: those that the periods of its tasks cause from time 0 on, and those of its
+/// script. There are at most 300,000.
+pub fn most_events(app: &App) -> usize
+    requires app { IsApp app.now }
+    ensures enough { length (events_of app.now) ≤ result }
+    ensures few { result ≤ 300000 }
+{
+    let mut most = app.script.as_slice().len();
+    for row in app.table.tasks.as_slice() {
+        most += releases(row, app.table.horizon);
+    }
+    most
 }
 
 /// Puts at the end the releases of a task by a timer with this phase and this period, below the horizon.

@@ -9,4 +9,5 @@ mod meter;
 mod view;
 
 pub use did::{Did, End, StepKind, View, What};
+pub use events::most_events;
 pub use kernel::Kernel;

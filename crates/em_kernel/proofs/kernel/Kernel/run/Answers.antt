@@ -4,7 +4,6 @@ use Rattle.em_base.specs.declared.apps.App.{App}
 use Rattle.em_ports.specs.Ports.{Places}
 use Rattle.em_gate.specs.Effects.{after_outcome}
 use Rattle.em_gate.specs.Outcome.{Outcome, outcome}
-use Rattle.em_gate.specs.State.{task_at}
 use Rattle.em_system.specs.Held.{Held, Holds, selected_of, tasks_of}
 use Rattle.em_system.specs.Promises.{promises_after}
 use Rattle.em_system.specs.Sound.{IsSound}
@@ -15,7 +14,7 @@ use Rattle.em_kernel.specs.Kept.{Kept, Stands, held_by}
 use Rattle.em_kernel.specs.Kernels.{IsKernel}
 use Rattle.em_kernel.specs.Step.{charge_by, kind_by, ran}
 use Rattle.em_kernel.proofs.Kernels.{next_kernel}
-use Rattle.em_kernel.proofs.Settling.{by_app, line_of_ran, metered_same, same_switch, settled_step}
+use Rattle.em_kernel.proofs.Settling.{by_app, metered_same, same_switch, settled_step}
 use Rattle.em_kernel.proofs.Steps.{did_of, keeps}
 use Rattle.em_kernel.proofs.kernel.Kernel.run.Goals as goal
 
@@ -93,7 +92,7 @@ returns-in-Ran-clause-step g c = λ s st.
     c.self.inside.meter meter left c.self.inside.meter.selected cost false
     c.step-stepped.ensures.app refl (ap kind_by (sym done.2) ∙ sym c.kind_of.ensures)
     (ap (λ charges. charge_by charges (stepped_of out)) (sym c.self.invariant.charged) ∙ ap (λ taken. charge_by c.self.inside.charges taken) (sym done.2) ∙ sym c.step_charge-cost.ensures.charge)
-    (line_of_ran out c.in-Ran.field-0 c.args.t (task_at s.plain.tasks c.args.t.0) s.plain (sym done.2 ∙ c.in-Ran.is))
+    (sym (c.step-stepped.ensures.line c.in-Ran.field-0 c.in-Ran.is) ∙ done.3)
     (ap (λ charges. charges.switch) c.self.invariant.charged)
     (metered_same c.self.inside.meter cost c.self.inside.charges.switch c.self.invariant.runs)
     (sym (same_switch c.self.inside.meter.selected c.self.inside.meter.current c.self.invariant.runs)) refl
