@@ -1,4 +1,4 @@
--- The event of a line may happen: its time is one of 32 bits, its task has an interrupt line, and its port is below 8.
+-- The event of a line may happen: its time and its word are of 32 bits, its task has an interrupt line, and its port is below 8.
 use Rattle.std.proofs.Common.{◌≡◌, ℕ, ◌<◌, ◌≤◌, ◌^◌, Bool, true, false, List, [], ◌∷◌, length, get_or, Option, Some, None, refl, subst, arith, codes}
 use Rattle.std.proofs.Common.{if◌then◌else◌}
 use Rattle.std.proofs.lemmas.Bool.Decides.{nat_tests}
@@ -16,7 +16,7 @@ use Rattle.em_base.specs.Events.{HasLine, IsEventAt}
 use Rattle.em_script.specs.declared.lines.Meaning.{Meaning}
 use Rattle.em_script.specs.declared.lines.Meaning.TheVariants.{Nothing, Interrupt, Unplugged}
 use Rattle.em_script.specs.Lines.{at_most, decimal, interrupt, last_line, last_port, last_word, meaning_of, meaning_of_words, unplug, words_of}
-use Rattle.em_script.specs.Script.{event_in, event_of, has_line, task_with_line}
+use Rattle.em_script.specs.Script.{HasWords, event_in, event_of, has_line, task_with_line}
 
 -- ---- the numbers of a line
 
@@ -101,27 +101,27 @@ task-has_line (x ∷ rows) line task e =
 
 -- ---- the event that a line tells of
 
--- the event may happen at its time, one of 32 bits
+-- the event may happen at its time, one of 32 bits, and has a word of 32 bits
 abbrev pub IsPossible : List TaskRow → Timed → Type 0
-IsPossible rows event = (event.time < 2 ^ 32) × IsEventAt rows event.time event.event
+IsPossible rows event = (event.time < 2 ^ 32) × IsEventAt rows event.time event.event × HasWords event
 
-release-possible : (rows : List TaskRow) (time line word : ℕ) (event : Timed) → time < 2 ^ 32 → (found : Option ℕ) → task_with_line rows line ≡ found
+release-possible : (rows : List TaskRow) (time line word : ℕ) (event : Timed) → time < 2 ^ 32 → word < 2 ^ 32 → (found : Option ℕ) → task_with_line rows line ≡ found
     → option_map (λ task. (let t : Timed = record { time = time; event = Release (record { 0 = task }) time word } in t)) found ≡ Some event
     → IsPossible rows event
-release-possible rows time line word event early None e k = absurd (cc)
-release-possible rows time line word event early (Some task) e k =
+release-possible rows time line word event early small None e k = absurd (cc)
+release-possible rows time line word event early small (Some task) e k =
     let release : Timed = record { time = time; event = Release (record { 0 = task }) time word } in
     let same : release ≡ event = cc in
-    subst (IsPossible rows) same (early, (task-has_line rows line task e, refl))
+    subst (IsPossible rows) same (early, (task-has_line rows line task e, refl), (early, small))
 
 event_of-possible : (rows : List TaskRow) (meaning : Meaning) (event : Timed) → AreWithin meaning → event_of rows meaning ≡ Some event → IsPossible rows event
 event_of-possible rows Nothing event within e = absurd (cc)
 event_of-possible rows (Interrupt time line word) event within e =
-    release-possible rows time line word event (omega (arith, within.0)) (task_with_line rows line) refl e
+    release-possible rows time line word event (omega (arith, within.0)) (omega (arith, within.2)) (task_with_line rows line) refl e
 event_of-possible rows (Unplugged time port) event within e =
     let unplugged : Timed = record { time = time; event = Unplug (record { 0 = port }) } in
     let same : unplugged ≡ event = cc in
-    subst (IsPossible rows) same (omega (arith, within.0), omega (arith, within.1))
+    subst (IsPossible rows) same (omega (arith, within.0), omega (arith, within.1), tt)
 
 -- the event of a line may happen
 pub event_in-possible : (rows : List TaskRow) (line : List ℕ) (event : Timed) → event_in rows (meaning_of line) ≡ Some event → IsPossible rows event

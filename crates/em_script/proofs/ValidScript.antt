@@ -5,7 +5,7 @@ use Rattle.std.proofs.Math.Seq.{take-suc}
 use Rattle.std.proofs.lemmas.List.{take_all}
 use Rattle.std.proofs.lemmas.List.Elements.{All-nil, All-push, filter_map-append}
 use Rattle.std.proofs.lemmas.Option.{get_or_from_slice_get, slice_get-get_or, slice_get_within}
-use Rattle.std.specs.List.{cons_option, slice_get}
+use Rattle.std.specs.List.{All, cons_option, slice_get}
 use Rattle.std.specs.Option.{option_to_list}
 use Rattle.em_base.proofs.FirstFaults.{none_found}
 use Rattle.em_base.specs.declared.events.Timed.{Timed}
@@ -14,7 +14,7 @@ use Rattle.em_base.specs.Events.{AreEarly, IsEventAt, IsScript}
 use Rattle.em_base.specs.FirstFault.{AreClear, by_test}
 use Rattle.em_script.specs.declared.faults.Fault.{Fault}
 use Rattle.em_script.specs.Lines.{meaning_of}
-use Rattle.em_script.specs.Script.{IsScriptOf, event_in, events_of, line_fault, meaning_fault}
+use Rattle.em_script.specs.Script.{HasWords, IsScriptOf, event_in, events_of, line_fault, meaning_fault}
 use Rattle.em_script.proofs.EventsInOrder.{order-push}
 use Rattle.em_script.proofs.NextEvent.{IsNext, meaning_fault-next}
 use Rattle.em_script.proofs.PossibleEvents.{IsPossible, event_in-possible}
@@ -53,10 +53,11 @@ line_fault-here rows lines i line events fault same e = sym (ap (λ es. meaning_
 
 -- ---- what holds of the events
 
--- the events are a script that may be, at times of 32 bits
+-- the events are a script that may be, at times and with words of 32 bits
 pub record IsValid (rows : List TaskRow) (events : List Timed) : Type 0 where
   pub script : IsScript rows events
   pub early : AreEarly events
+  pub words : All HasWords events
 
 valid-push : (rows : List TaskRow) (events : List Timed) (event : Timed) → IsValid rows events → IsNext events event → IsPossible rows event
     → IsValid rows (events ++ event ∷ [])
@@ -67,6 +68,7 @@ valid-push rows events event v next possible = record {
     ordered = order-push events event v.script.ordered next.late;
   };
   early = All-push (λ e. e.time < 2 ^ 32) events event v.early possible.0;
+  words = All-push HasWords events event v.words possible.2;
 }
 
 valid-more : (rows : List TaskRow) (lines : List (List ℕ)) (i : ℕ) (line : List ℕ) → slice_get lines i ≡ Some line
@@ -88,6 +90,7 @@ valid-before : (rows : List TaskRow) (lines : List (List ℕ)) (n : ℕ) → n �
 valid-before rows lines zero h clear = record {
   script = record { few = omega arith; possible = All-nil (λ e. IsEventAt rows e.time e.event); ordered = tt };
   early = All-nil (λ e. e.time < 2 ^ 32);
+  words = All-nil HasWords;
 }
 valid-before rows lines (suc n) h clear =
     let line = get_or lines n [] in
@@ -97,7 +100,7 @@ valid-before rows lines (suc n) h clear =
     valid-more rows lines n line here before (none_found (line_fault rows) lines (suc n) n line clear (omega arith) here) in
     subst (λ k. IsValid rows (events_of rows (take k lines))) (add-one n) more
 
--- the events of a script are one that its table may have, at times of 32 bits
+-- the events of a script are one that its table may have, at times and with words of 32 bits
 pub valid_script : (rows : List TaskRow) (lines : List (List ℕ)) (events : List Timed) → IsScriptOf rows lines events → IsValid rows events
 valid_script rows lines events s =
     let whole : take (length lines) lines ≡ lines = take_all (length lines) lines (omega arith) in

@@ -1,8 +1,9 @@
 -- The events of a script, and the first line that is refused: this project's own.
-use Rattle.std.specs.Prelude.{◌≡◌, ℕ, ◌+◌, ⊤, Bool, true, false, nat_lt, nat_eq, not, if◌then◌else◌, List, [], ◌∷◌, length}
+use Rattle.std.specs.Prelude.{◌≡◌, ℕ, ◌+◌, ◌<◌, ◌^◌, ⊤, Bool, true, false, nat_lt, nat_eq, not, if◌then◌else◌, List, [], ◌∷◌, length}
 use Rattle.std.specs.Prelude.{Option, Some, None, is_some}
 use Rattle.std.specs.List.{filter_map, position}
 use Rattle.std.specs.Option.{option_map}
+use Rattle.em_base.specs.declared.events.Event.{Event}
 use Rattle.em_base.specs.declared.events.Event.TheVariants.{Release, Unplug}
 use Rattle.em_base.specs.declared.events.Timed.{Timed}
 use Rattle.em_base.specs.declared.refusals.Fail.{Fail}
@@ -43,6 +44,15 @@ event_in rows (Some meaning) = event_of rows meaning
 -- the events that lines tell of, in order
 abbrev pub events_of : List TaskRow → List (List ℕ) → List Timed
 events_of rows lines = filter_map (λ line. event_in rows (meaning_of line)) lines
+
+-- the arrival and the word of a release are numbers of 32 bits
+abbrev pub IsInWords : Event → Type 0
+IsInWords (Release task arrival word) = (arrival < 2 ^ 32) × (word < 2 ^ 32)
+IsInWords (Unplug port) = ⊤
+
+-- so they are in an event at a time
+abbrev pub HasWords : Timed → Type 0
+HasWords timed = IsInWords timed.event
 
 -- ---- what is refused
 

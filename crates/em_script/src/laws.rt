@@ -1,9 +1,9 @@
 //! Laws of scripts.
-ghost use Rattle.std.specs.Prelude.{◌≡◌, ◌⊎◌, ℕ, List};
+ghost use Rattle.std.specs.Prelude.{◌≡◌, ◌⊎◌, ℕ, All, List};
 ghost use Rattle.em_base.specs.declared.events.Timed.{Timed};
 ghost use Rattle.em_base.specs.declared.refusals.Refusal.{Refusal};
 ghost use Rattle.em_base.specs.declared.tables.TaskRow.{TaskRow};
-ghost use Rattle.em_script.specs.Script.{IsScriptRefused, IsScriptOf};
+ghost use Rattle.em_script.specs.Script.{HasWords, IsScriptRefused, IsScriptOf};
 
 /// Lines are a script of one list of events, or are refused with one refusal: one of these, and never both.
 pub fn one_script()
@@ -18,4 +18,10 @@ pub fn one_script()
     ensures some { (first : ℕ) (rows : List TaskRow) (lines : List (List ℕ))
         → ((events : List Timed) × IsScriptOf rows lines events)
         ⊎ ((refusal : Refusal) × IsScriptRefused first rows lines refusal) }
+{}
+
+/// The releases of a script arrive at times of 32 bits, with words of 32 bits.
+pub fn in_words()
+    ensures { (rows : List TaskRow) (lines : List (List ℕ)) (events : List Timed)
+        → IsScriptOf rows lines events → All HasWords events }
 {}

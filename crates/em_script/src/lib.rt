@@ -9,5 +9,5 @@ mod reading;
 #[cfg(test)]
 mod tests;
 
-pub use laws::one_script;
+pub use laws::{in_words, one_script};
 pub use reading::read_script;
