@@ -8,3 +8,7 @@ pub mod OneApplication
 pub mod OneRefusal
 pub mod CutOrUncut
 pub mod SomeApplication
+pub mod EndedLines
+pub mod PartsBehind
+pub mod ScheduleBytes
+pub mod ScheduleBehind

@@ -50,7 +50,8 @@ before-headed part (x ∷ rest) plain (inr headed) = ap (λ n. take n (part ++ x
 
 -- ---- header lines
 
-plain-headers : (part : Lines) → ArePlain part → headers_in part ≡ []
+-- there are none where no line is one
+pub plain-headers : (part : Lines) → ArePlain part → headers_in part ≡ []
 plain-headers [] h = refl
 plain-headers (line ∷ part) h =
     let b = both (not (is_header line)) (list_all (λ l. not (is_header l)) part) h in

@@ -12,7 +12,8 @@ use denote.Ref.{Bor}
 use Rattle.em_bundle.specs.Parts.{is_header}
 use Rattle.em_bundle.specs.Walk.{IsFirstLine}
 
-abbrev is_feed : ℕ → Bool
+-- whether a byte is a line feed
+abbrev pub is_feed : ℕ → Bool
 is_feed byte = byte == 10
 
 -- no byte is a line feed
@@ -32,7 +33,8 @@ no-feed text h = λ i d within. by_test i d within (is_feed (get_or text i d)) r
 
 -- ---- the first line
 
-parted : (line : List ℕ) (parts : List (List ℕ)) → 0 < length parts → lines_of_parts (line ∷ parts) ≡ strip_carriage_return line ∷ lines_of_parts parts
+-- the lines of parts begin with the first part, where others follow
+pub parted : (line : List ℕ) (parts : List (List ℕ)) → 0 < length parts → lines_of_parts (line ∷ parts) ≡ strip_carriage_return line ∷ lines_of_parts parts
 parted line [] h = absurd (omega arith)
 parted line (part ∷ parts) h = refl
 

@@ -3,3 +3,4 @@ pub mod Parts
 pub mod Code
 pub mod Application
 pub mod Walk
+pub mod Scheduled

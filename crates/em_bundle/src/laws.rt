@@ -1,13 +1,20 @@
 //! Laws of bundles.
-ghost use Rattle.std.specs.Prelude.{◌≡◌, ◌⊎◌, ℕ, Bool, List};
+ghost use Rattle.std.specs.Prelude.{◌≡◌, ◌⊎◌, ℕ, All, Bool, true, List, length, Some};
+ghost use Rattle.std.specs.Str.Lines.{lines};
 ghost use Rattle.em_base.specs.declared.apps.App.{App};
+ghost use Rattle.em_base.specs.declared.events.Schedule.{Schedule};
 ghost use Rattle.em_base.specs.declared.refusals.Refusal.{Refusal};
-ghost use Rattle.em_bundle.specs.Application.{IsApplicationFor, IsBundleRefusedFor};
+ghost use Rattle.em_base.specs.Events.{IsScript};
+ghost use Rattle.em_base.specs.Tables.{IsTable};
+ghost use Rattle.em_script.specs.Script.{HasWords};
+ghost use Rattle.em_trace.specs.Schedules.{IsSchedule};
+ghost use Rattle.em_bundle.specs.Application.{IsApplication, IsApplicationFor, IsBundleRefusedFor};
+ghost use Rattle.em_bundle.specs.Scheduled.{ended_lines, with_schedule};
 
 use em_asm::one_image;
 use em_asm_read::one_meaning;
 use em_script::one_script;
-use em_trace::one_schedule;
+use em_trace::{one_schedule, schedule_reads_back};
 
 /// With replay, and without, bytes stand for one application or are refused with one refusal, and never both.
 pub fn one_application()
@@ -27,3 +34,27 @@ pub fn one_application()
     one_script();
     one_schedule();
 }
+
+/// The bytes of an application, with their last line ended and then a schedule for as many tasks as it has as the part
+/// `%schedule`, are those of the same application with this schedule, to be replayed. Ending the last line, where it isn't ended,
+/// leaves the lines of any bytes as they were.
+pub fn replayable()
+    ensures lines { (bytes : List ℕ) → lines (ended_lines bytes) ≡ lines bytes }
+    ensures app { (bytes : List ℕ) (app : App) (schedule : Schedule)
+        → IsApplication bytes app → IsSchedule (length app.table.tasks) schedule
+        → IsApplicationFor true (with_schedule bytes schedule)
+        (record app { schedule = Some schedule }) }
+{
+    schedule_reads_back();
+}
+
+/// The table of an application that bytes stand for is one that there may be, and so is its script, whose releases have
+/// arrivals and words of 32 bits.
+pub fn sound_application()
+    ensures table { (replay : Bool) (bytes : List ℕ) (app : App)
+        → IsApplicationFor replay bytes app → IsTable app.table }
+    ensures script { (replay : Bool) (bytes : List ℕ) (app : App)
+        → IsApplicationFor replay bytes app → IsScript app.table.tasks app.script }
+    ensures words { (replay : Bool) (bytes : List ℕ) (app : App)
+        → IsApplicationFor replay bytes app → All HasWords app.script }
+{}

@@ -11,5 +11,5 @@ mod tests;
 mod texts;
 
 pub use faults::Fault;
-pub use laws::one_application;
+pub use laws::{one_application, replayable, sound_application};
 pub use loading::load;

@@ -73,8 +73,9 @@ fn load_schedule(
 ) -> Result<Option<Schedule>, Fail>
     requires { parts.now.schedule_line + 1 + length (lines parts.now.schedule.now) < 2 ^ 32 }
     ensures schedule { IfOk result (IsScheduled replay (part_lines parts.now) table.now) }
-    ensures refused { IfErr result (λ fail. (replay ≡ true) × IsScheduleFail
-        (parts.now.schedule_line + 1) (length table.now.tasks) (lines parts.now.schedule.now) fail) }
+    ensures refused { IfErr result (λ fail. (replay ≡ true)
+        × IsScheduleFail (parts.now.schedule_line + 1) (length table.now.tasks)
+        (lines parts.now.schedule.now) fail) }
 {
     if !replay {
         return Ok(None);
@@ -88,7 +89,8 @@ fn load_parts(alloc: Global, parts: &Parts<'_>, replay: bool) -> Result<App, Fai
     requires table { length (lines parts.now.table.now) < 2 ^ 31 }
     requires code { parts.now.code_line + 1 + length (lines parts.now.code.now) < 2 ^ 31 + 1 }
     requires script { parts.now.script_line + 1 + length (lines parts.now.script.now) < 2 ^ 32 }
-    requires schedule { parts.now.schedule_line + 1 + length (lines parts.now.schedule.now) < 2 ^ 32 }
+    requires schedule { let count = length (lines parts.now.schedule.now) in
+        parts.now.schedule_line + 1 + count < 2 ^ 32 }
     ensures app { IfOk result (IsApplicationOf replay (part_lines parts.now)) }
     ensures valid { IfOk result IsApp }
     ensures early { IfOk result (λ app. AreEarly app.script) }
