@@ -1,0 +1,5 @@
+pub mod Order
+pub mod Members
+pub mod Least
+pub mod Roots
+pub mod Chains
