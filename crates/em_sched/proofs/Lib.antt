@@ -1,0 +1,15 @@
+pub mod Statuses
+pub mod Owned
+pub mod Tells
+pub mod OwnedSteps
+pub mod Bare
+pub mod Levels
+pub mod Runs
+pub mod CountedSteps
+pub mod Beside
+pub mod Boot
+pub mod Agreeing
+pub mod PlainKept
+pub mod Traced
+pub mod ValidSchedule
+pub mod Sights

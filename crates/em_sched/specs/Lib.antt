@@ -1,0 +1,5 @@
+pub mod Image
+pub mod Turns
+pub mod Agreement
+pub mod Traces
+pub mod Seen
