@@ -1,5 +1,5 @@
 -- What comes where nothing is amiss, and where the bytes alone are.
-use Rattle.std.proofs.Common.{◌≡◌, ◌≢◌, ◌∙◌, ℕ, true, false, ◌+◌, ◌<◌, ◌≤◌, ◌⊎◌, List, [], ◌++◌, length, Option, Some, None, inl, inr, refl, sym, ap, subst, arith, append-nil, length-append}
+use Rattle.std.proofs.Common.{◌≡◌, ◌≢◌, ◌∙◌, ℕ, true, ◌+◌, ◌<◌, ◌≤◌, ◌⊎◌, List, [], ◌++◌, length, Option, Some, None, inl, inr, refl, sym, ap, subst, arith, append-nil, length-append}
 use Rattle.std.proofs.lemmas.Bool.{true≢false}
 use Rattle.em_base.specs.declared.apps.App.{App}
 use Rattle.em_base.specs.declared.refusals.Refusal.{Refusal}

@@ -3,6 +3,8 @@ pub mod OneCommand
 pub mod OneAnswer
 pub mod Complete
 pub mod Stepping
+pub mod Counting
+pub mod Agreements
 pub mod Loading
 pub mod TaskLoading
 pub mod Outputs

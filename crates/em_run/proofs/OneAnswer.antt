@@ -5,7 +5,7 @@ use Rattle.em_base.specs.declared.apps.App.{App}
 use Rattle.em_base.specs.declared.events.Schedule.{Schedule}
 use Rattle.em_base.specs.declared.refusals.Refusal.{Refusal}
 use Rattle.em_show.specs.Listing.{IsListing}
-use Rattle.em_bundle.specs.Application.{IsApplicationFor, IsApplicationOf, IsBundleRefusedFor, IsScheduled}
+use Rattle.em_bundle.specs.Application.{IsApplicationFor, IsBundleRefusedFor, IsScheduled}
 use Rattle.em_bundle.specs.Parts.{parts_of}
 use Rattle.em_kernel.specs.declared.did.End.{End}
 use Rattle.em_kernel.specs.declared.did.End.TheVariants.{Horizon, Quiet, Lines, Lapped as LappedEnd}

@@ -1,5 +1,5 @@
 -- How a run goes on, step by step.
-use Rattle.std.proofs.Common.{◌≡◌, ℕ, suc, ◌+◌, ◌-◌, ◌<◌, ◌≤◌, Bool, true, false, nat_le, if◌then◌else◌, List, [], ◌∷◌, ◌++◌, length, Option, None, Some, refl, sym, ap, subst, ◌∙◌, append_assoc, arith}
+use Rattle.std.proofs.Common.{◌≡◌, ℕ, suc, ◌+◌, ◌-◌, ◌<◌, ◌≤◌, Bool, true, false, nat_le, if◌then◌else◌, List, [], ◌∷◌, ◌++◌, length, Option, None, Some, refl, sym, ap, subst, ◌∙◌, append_assoc, length-append, arith}
 use Rattle.std.proofs.lemmas.Grind.{flat_map-append}
 use Rattle.std.proofs.lemmas.List.Sums.{sum_by-append}
 use Rattle.em_base.specs.declared.apps.App.{App}
@@ -17,7 +17,9 @@ use Rattle.em_kernel.specs.declared.did.What.TheVariants.{Delivered, Stepped, Id
 use Rattle.em_kernel.specs.Kept.{Kept, Stands, kept_fuel}
 use Rattle.em_kernel.specs.Run.{counted_boot, fuel, is_end, run_end, run_steps, state_from, steps_from}
 use Rattle.em_kernel.specs.Step.{chosen, delivered, ended, next, step, waited}
-use Rattle.em_run.specs.Runs.{cause_in, cause_of, lines_in, or_cause, switches_in}
+use Rattle.em_sched.specs.Image.{Image, image_after, image_beside, image_boot, image_from, schedule_of, scheduled}
+use Rattle.em_sched.specs.Traces.{lines_in}
+use Rattle.em_run.specs.Runs.{cause_in, cause_of, or_cause, switches_in}
 
 -- ---- what one step tells
 
@@ -55,6 +57,10 @@ no_cause (Stepped t kind) e = refl
 no_cause Idled e = refl
 no_cause (Ended cause) e = absurd (cc)
 
+-- the image after the next step
+abbrev pub next_image : App → Counted → Image → Image
+next_image app c image = image_after app c (step app c).state (step app c).did.what image
+
 -- ---- many steps
 
 -- where a step doesn't end the run, it goes on from the state after it
@@ -75,6 +81,20 @@ state-more app k c e = ap (λ b. if b then (step app c).state else state_from ap
 state-last : (app : App) (k : ℕ) (c : Counted) → is_end (step app c).did.what ≡ true → state_from app (suc k) c ≡ (step app c).state
 unfolding state_from
 state-last app k c e = ap (λ b. if b then (step app c).state else state_from app k (step app c).state) e
+
+image-more : (app : App) (k : ℕ) (c : Counted) (image : Image) → is_end (step app c).did.what ≡ false
+    → image_from app (suc k) c image ≡ image_from app k (step app c).state (next_image app c image)
+unfolding image_from
+image-more app k c image e = ap (λ b. if b then next_image app c image else image_from app k (step app c).state (next_image app c image)) e
+
+image-last : (app : App) (k : ℕ) (c : Counted) (image : Image) → is_end (step app c).did.what ≡ true
+    → image_from app (suc k) c image ≡ next_image app c image
+unfolding image_from
+image-last app k c image e = ap (λ b. if b then next_image app c image else image_from app k (step app c).state (next_image app c image)) e
+
+image-none : (app : App) (c : Counted) (image : Image) → image_from app 0 c image ≡ image
+unfolding image_from
+image-none app c image = refl
 
 pub state-none : (app : App) (c : Counted) → state_from app 0 c ≡ c
 unfolding state_from
@@ -126,6 +146,9 @@ pub record Come (app : App) (places : Places) (lines : List Line) (switches : �
   pub done : List Did
   pub steps_on : (k : ℕ) → steps_from app (count + k) (counted_boot app places) ≡ done ++ steps_from app k c
   pub state_on : (k : ℕ) → state_from app (count + k) (counted_boot app places) ≡ state_from app k c
+  pub image : Image
+  pub image_on : (k : ℕ) → image_from app (count + k) (counted_boot app places) (image_boot app places) ≡ image_from app k c image
+  pub long : length done ≡ count
   pub lines_are : lines ≡ lines_in done
   pub switches_are : switches ≡ switches_in done
   pub unended : cause_in done ≡ None
@@ -138,6 +161,9 @@ at_boot app places = record {
   done = [];
   steps_on = λ k. ap (λ n. steps_from app n (counted_boot app places)) (none k);
   state_on = λ k. ap (λ n. state_from app n (counted_boot app places)) (none k);
+  image = image_boot app places;
+  image_on = λ k. ap (λ n. image_from app n (counted_boot app places) (image_boot app places)) (none k);
+  long = refl;
   lines_are = refl;
   switches_are = refl;
   unended = refl;
@@ -158,6 +184,11 @@ one_more app places lines switches c e falls come = record {
       ap (λ n. steps_from app n (counted_boot app places)) (shift k) ∙ come.steps_on (suc k) ∙ ap (λ ds. come.done ++ ds) (steps-more app k c e)
       ∙ sym (append_assoc come.done ((step app c).did ∷ []) (steps_from app k (step app c).state));
   state_on = λ k. ap (λ n. state_from app n (counted_boot app places)) (shift k) ∙ come.state_on (suc k) ∙ state-more app k c e;
+  image = next_image app c come.image;
+  image_on = λ k.
+      ap (λ n. image_from app n (counted_boot app places) (image_boot app places)) (shift k) ∙ come.image_on (suc k)
+      ∙ image-more app k c come.image e;
+  long = let more = length-append come.done ((step app c).did ∷ []) in omega (arith, more, come.long);
   lines_are = ap (λ ls. ls ++ option_list (step app c).did.line) come.lines_are ∙ sym (lines-one come.done (step app c).did);
   switches_are = ap (counted_up (step app c).did.switched) come.switches_are ∙ sym (switches-one come.done (step app c).did);
   unended = cause-one come.done (step app c).did come.unended ∙ no_cause (step app c).did.what e;
@@ -168,21 +199,29 @@ one_more app places lines switches c e falls come = record {
     shift k = omega arith
 
 -- what the whole run is, where the next step ends it
-pub record Ends (app : App) (places : Places) (lines : List Line) (switches : ℕ) (c : Counted) : Type 0 where
+pub record Ends (app : App) (places : Places) (lines : List Line) (switches : ℕ) (c : Counted) (number : ℕ) : Type 0 where
   pub lines_are : lines ++ option_list (step app c).did.line ≡ lines_in (run_steps app places)
   pub cause_is : cause_in (run_steps app places) ≡ cause_of (step app c).did.what
   pub switches_are : counted_up (step app c).did.switched switches ≡ switches_in (run_steps app places)
   pub state_is : run_end app places ≡ (step app c).state
+  pub schedule_is : schedule_of app places ≡ scheduled (image_beside app places (suc number))
 
 pub at_end : (app : App) (places : Places) (lines : List Line) (switches : ℕ) (c : Counted) → is_end (step app c).did.what ≡ true
-    → Come app places lines switches c → Ends app places lines switches c
+    → (come : Come app places lines switches c) → Ends app places lines switches c come.count
 at_end app places lines switches c e come = record {
   lines_are = ap (λ ls. ls ++ option_list (step app c).did.line) come.lines_are ∙ sym (ap lines_in whole ∙ lines-one come.done (step app c).did);
   cause_is = ap cause_in whole ∙ cause-one come.done (step app c).did come.unended;
   switches_are = ap (counted_up (step app c).did.switched) come.switches_are ∙ sym (ap switches_in whole ∙ switches-one come.done (step app c).did);
   state_is = ap (λ n. state_from app n (counted_boot app places)) all ∙ come.state_on (suc rest) ∙ state-last app rest c e;
+  schedule_is =
+      ap scheduled
+      (ap (λ n. image_beside app places n) all ∙ come.image_on (suc rest) ∙ image-last app rest c come.image e
+      ∙ sym (image-last app 0 c come.image e) ∙ sym (come.image_on 1) ∙ ap (λ n. image_beside app places n) one);
 }
   where
+    one : come.count + 1 ≡ suc come.count
+    one = omega arith
+
     rest : ℕ
     rest = fuel app (counted_boot app places) - suc come.count
 
@@ -191,6 +230,25 @@ at_end app places lines switches c e come = record {
 
     whole : run_steps app places ≡ come.done ++ (step app c).did ∷ []
     whole = ap (λ n. steps_from app n (counted_boot app places)) all ∙ come.steps_on (suc rest) ∙ ap (λ ds. come.done ++ ds) (steps-last app rest c e)
+
+-- one step more stands behind those before
+pub steps_next : (app : App) (places : Places) (lines : List Line) (switches : ℕ) (c : Counted) (come : Come app places lines switches c)
+    → steps_from app (suc come.count) (counted_boot app places) ≡ steps_from app come.count (counted_boot app places) ++ (step app c).did ∷ []
+unfolding steps_from
+steps_next app places lines switches c come =
+    let more : suc come.count ≡ come.count + 1 = omega arith in
+    let same : come.count + 0 ≡ come.count = omega arith in
+    ap (λ n. steps_from app n (counted_boot app places)) more ∙ come.steps_on 1
+    ∙ ap (λ ds. come.done ++ ds) (one (is_end (step app c).did.what))
+    ∙ ap (λ ds. ds ++ (step app c).did ∷ []) (sym (none come.done) ∙ sym (come.steps_on 0) ∙ ap (λ n. steps_from app n (counted_boot app places)) same)
+  where
+    one : (b : Bool) → (if b then (step app c).did ∷ [] else (step app c).did ∷ []) ≡ (step app c).did ∷ []
+    one true = refl
+    one false = refl
+
+    none : (xs : List Did) → xs ++ [] ≡ xs
+    none [] = refl
+    none (x ∷ xs) = ap (λ ys. x ∷ ys) (none xs)
 
 -- the state that a run has come to, and the one after the next step, are those after some number of steps
 pub come_state : (app : App) (places : Places) (lines : List Line) (switches : ℕ) (c : Counted) (come : Come app places lines switches c)
@@ -232,8 +290,29 @@ on_same app places lines other_lines switches other_switches c l s come = record
   done = come.done;
   steps_on = come.steps_on;
   state_on = come.state_on;
+  image = come.image;
+  image_on = come.image_on;
+  long = come.long;
   lines_are = l ∙ come.lines_are;
   switches_are = s ∙ come.switches_are;
   unended = come.unended;
   enough = come.enough;
 }
+
+-- ---- how many steps are done
+
+pub at_boot_count : (app : App) (places : Places) → (at_boot app places).count ≡ 0
+unfolding at_boot
+at_boot_count app places = refl
+
+pub on_same_count : (app : App) (places : Places) (lines other_lines : List Line) (switches other_switches : ℕ) (c : Counted)
+    (l : other_lines ≡ lines) (s : other_switches ≡ switches) (come : Come app places lines switches c)
+    → (on_same app places lines other_lines switches other_switches c l s come).count ≡ come.count
+unfolding on_same
+on_same_count app places lines other_lines switches other_switches c l s come = refl
+
+pub one_more_count : (app : App) (places : Places) (lines : List Line) (switches : ℕ) (c : Counted) (e : is_end (step app c).did.what ≡ false)
+    (falls : fuel app (step app c).state < fuel app c) (come : Come app places lines switches c)
+    → (one_more app places lines switches c e falls come).count ≡ suc come.count
+unfolding one_more
+one_more_count app places lines switches c e falls come = refl

@@ -3,3 +3,4 @@ pub mod Commands
 pub mod Runs
 pub mod Output
 pub mod Texts
+pub mod Agreed

@@ -87,7 +87,7 @@ abbrev pub status_of : Option End → Status
 status_of None = Done
 status_of (Some cause) = status_by cause
 
--- the output of a run: the status by how it ended, the parts of its trace and of its end, and the ports of its last state
+-- the output of a run: the status by how it ended, the parts of its trace, its schedule and its end, and the ports of its last state
 pub record IsRunOutput (app : App) (before : Places) (status : Status) (text : List ℕ) (after : Places) : Type 0 where
   pub status_is : status ≡ status_of (cause_in (run_steps app before))
   pub text_is : text ≡ run_text app before

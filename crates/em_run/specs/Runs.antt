@@ -1,25 +1,23 @@
 -- What a run of an application comes to, and the text that the program writes of it. The format is this project's own.
 use Rattle.std.specs.Prelude.{◌≡◌, ℕ, Bool, true, false, List, [], ◌∷◌, ◌++◌, count_by, length, Option, None, Some, codes}
-use Rattle.std.specs.List.{flat_map}
 use Rattle.std.specs.Fmt.{decimal}
 use Rattle.em_base.specs.declared.apps.App.{App}
+use Rattle.em_base.specs.declared.events.Schedule.{Schedule}
 use Rattle.em_trace.specs.declared.lines.Line.{Line}
 use Rattle.em_trace.specs.Printed.{trace_text}
+use Rattle.em_trace.specs.Schedules.{schedule_text}
 use Rattle.em_ports.specs.Ports.{Places}
-use Rattle.em_gate.specs.Effects.{option_list}
 use Rattle.em_kernel.specs.declared.did.Did.{Did}
 use Rattle.em_kernel.specs.declared.did.End.{End}
 use Rattle.em_kernel.specs.declared.did.End.TheVariants.{Horizon, Quiet, Lines, Lapped}
 use Rattle.em_kernel.specs.declared.did.What.{What}
 use Rattle.em_kernel.specs.declared.did.What.TheVariants.{Delivered, Stepped, Idled, Ended}
 use Rattle.em_kernel.specs.Run.{counted_boot, run_end, run_steps, state_from}
+use Rattle.em_sched.specs.Image.{schedule_of}
+use Rattle.em_sched.specs.Traces.{lines_in}
 use Rattle.em_run.specs.declared.running.Run.{Run}
 
 -- ---- what the steps of a run come to
-
--- the lines that the steps give to the trace
-abbrev pub lines_in : List Did → List Line
-lines_in steps = flat_map (λ did. option_list did.line) steps
 
 -- how many of the steps have a switch charge
 abbrev pub switches_in : List Did → ℕ
@@ -42,9 +40,10 @@ abbrev pub cause_in : List Did → Option End
 cause_in [] = None
 cause_in (did ∷ rest) = or_cause (cause_of did.what) (cause_in rest)
 
--- a run of an application with these ports: its lines, how it ended, its last clock and its number of switches
+-- a run of an application with these ports: its lines, its schedule, how it ended, its last clock and its number of switches
 pub record IsRunOf (app : App) (ports : Places) (run : Run) : Type 0 where
   pub lines_are : run.lines ≡ lines_in (run_steps app ports)
+  pub schedule_is : run.schedule ≡ schedule_of app ports
   pub ends : cause_in (run_steps app ports) ≡ Some run.end
   pub clock_is : run.clock ≡ (run_end app ports).clock
   pub switches_are : run.switches ≡ switches_in (run_steps app ports)
@@ -73,16 +72,17 @@ end_text None clock switches = []
 end_text (Some cause) clock switches =
     cause_text cause ++ codes " clock " ++ decimal clock ++ codes " switches " ++ decimal switches ++ codes "\n"
 
--- the parts of a trace and of an end, each under its header line
-abbrev pub parts_text : List Line → Option End → ℕ → ℕ → List ℕ
-parts_text lines cause clock switches =
-    codes "%trace\n" ++ trace_text lines ++ codes "%end\n" ++ end_text cause clock switches
+-- the parts of a trace, of a schedule and of an end, each under its header line
+abbrev pub parts_text : List Line → Schedule → List ℕ → List ℕ
+parts_text lines schedule ending =
+    codes "%trace\n" ++ trace_text lines ++ codes "%schedule\n" ++ schedule_text schedule ++ codes "%end\n" ++ ending
 
--- the text of a run: its trace and its end
+-- the text of a run: its trace, its schedule and its end
 abbrev pub run_text : App → Places → List ℕ
 run_text app ports =
     let steps = run_steps app ports in
-    parts_text (lines_in steps) (cause_in steps) (run_end app ports).clock (switches_in steps)
+    let ending = end_text (cause_in steps) (run_end app ports).clock (switches_in steps) in
+    parts_text (lines_in steps) (schedule_of app ports) ending
 
 -- the line of a bench: the number, how many lines the trace has, the last clock and the number of switches
 abbrev pub bench_text : ℕ → App → Places → List ℕ

@@ -4,7 +4,7 @@ ghost use Rattle.std.specs.Prelude.{string_bytes};
 ghost use Rattle.em_base.specs.Apps.{IsApp};
 ghost use Rattle.em_show.specs.Listing.{IsListing};
 ghost use Rattle.em_trace.specs.Printed.{trace_text};
-ghost use Rattle.em_trace.specs.Schedules.{IsSchedule};
+ghost use Rattle.em_trace.specs.Schedules.{IsSchedule, schedule_text};
 ghost use Rattle.em_plain.specs.Answers.{ArePartWay as ArePlainPart};
 ghost use Rattle.em_plain.specs.Runs.{plain_run, state_of};
 ghost use Rattle.em_run.specs.Output.{IsBenchOutput, IsOutput, IsPartOf, IsReplay, IsReplayOutput, IsReplayPart};
@@ -20,7 +20,7 @@ use em_kernel::End;
 use em_plain::{PlainFail, PlainRun};
 use em_ports::{Ports, Seen};
 use em_show::listing;
-use em_trace::{Line, put_trace};
+use em_trace::{Line, print_schedule, put_trace};
 use std::alloc::Global;
 use std::fmt::Write;
 
@@ -171,19 +171,29 @@ fn replay_text(alloc: Global, run: &PlainRun) -> Result<String, NoMemory>
     let word = if run.full { "lines" } else { "replayed" };
     let count = run.count;
     let mut text = trace_part(alloc, run.lines.as_slice())?;
-    write!(text, "{word} {count}\n")?;
+    write!(text, "%end\n{word} {count}\n")?;
     Ok(text)
 }
 
-/// The text of a trace and of the header line of the end.
+/// The text of a trace, under its header line.
 fn trace_part(alloc: Global, lines: &[Line]) -> Result<String, NoMemory>
-    ensures { let whole = codes "%trace\n" ++ trace_text lines.now ++ codes "%end\n" in
-        IfOk result (λ text. string_bytes text ≡ whole) }
+    ensures { let part = codes "%trace\n" ++ trace_text lines.now in
+        IfOk result (λ text. string_bytes text ≡ part) }
 {
     let mut text = String::from_str(alloc, "%trace\n")?;
     put_trace(&mut text, lines)?;
-    text.push_str("%end\n")?;
     Ok(text)
+}
+
+/// Puts a schedule at the end of a text, under its header line.
+fn put_schedule(alloc: Global, text: &mut String, schedule: &Schedule) -> Result<(), NoMemory>
+    ensures { let part = codes "%schedule\n" ++ schedule_text schedule.now in
+        OnOk result (string_bytes text.new ≡ string_bytes text.old ++ part) }
+{
+    let lines = print_schedule(alloc, schedule)?;
+    text.push_str("%schedule\n")?;
+    text.push_str(lines.as_str())?;
+    Ok(())
 }
 
 /// The status of a run, by how it ended.
@@ -196,13 +206,15 @@ fn status_of(end: End) -> Status
     }
 }
 
-/// The text of a run: its trace and its end, each under its header line.
+/// The text of a run: its trace, its schedule and its end, each under its header line.
 fn text_of(alloc: Global, run: &Run) -> Result<String, NoMemory>
-    ensures { let parts = parts_text run.now.lines (Some run.now.end) in
-        let whole = parts run.now.clock run.now.switches in
+    ensures { let parts = parts_text run.now.lines run.now.schedule in
+        let whole = parts (end_text (Some run.now.end) run.now.clock run.now.switches) in
         IfOk result (λ text. string_bytes text ≡ whole) }
 {
     let mut text = trace_part(alloc, run.lines.as_slice())?;
+    put_schedule(alloc, &mut text, &run.schedule)?;
+    text.push_str("%end\n")?;
     put_end(&mut text, run)?;
     Ok(text)
 }

@@ -1,12 +1,13 @@
 //! The run of an application on the kernel, from its boot to its end.
-ghost use Rattle.std.specs.Prelude.{◌≡◌, ◌<◌, ◌++◌, ℕ, [], IfOk, OnOk};
+ghost use Rattle.std.specs.Prelude.{◌≡◌, ◌<◌, ℕ, [], IfOk};
 ghost use Rattle.em_base.specs.Apps.{IsApp};
-ghost use Rattle.em_gate.specs.Effects.{option_list};
 ghost use Rattle.em_run.specs.Runs.{ArePartWay, IsRunOf, ports_after};
 
-use em_base::{App, Items, NoMemory, Steps};
+use em_base::{App, Items, NoMemory, Schedule, Steps};
 use em_kernel::{End, Kernel, What};
 use em_ports::{Ports, Seen};
+use em_sched::Counter;
+use em_system::put_line;
 use em_trace::Line;
 use std::alloc::Global;
 use std::marker::Brand;
@@ -17,6 +18,8 @@ use std::sync::ledger::{Blank, Ledger};
 pub struct Run {
     /// The lines of its trace.
     pub lines: Items<Line>,
+    /// Its schedule: each event with the steps of the plain machine before it, and how many steps there are in all.
+    pub schedule: Schedule,
     /// How it ended.
     pub end: End,
     /// The clock at its end, in cycles.
@@ -62,27 +65,20 @@ fn run_counted<L: Ledger>(
 {
     let mut steps = Steps::<L>::start(blank);
     let mut kernel = Kernel::boot(alloc, app)?;
+    let mut counter = Counter::new(alloc, app)?;
     let mut lines: Items<Line> = Items::new(alloc);
     'steps: loop {
         let did = kernel.step(ports, &mut steps);
-        put_line(alloc, &mut lines, did.line)?;
+        counter.see(&kernel, &did);
+        put_line(alloc, &mut lines, &did.line)?;
         if let What::Ended(end) = did.what {
             return Ok(Run {
                 lines,
+                schedule: counter.finish(),
                 end,
                 clock: did.clock,
                 switches: kernel.switches(),
             });
         }
-    }
-}
-
-/// Puts the line of a step at the end, where it has one.
-fn put_line(alloc: Global, lines: &mut Items<Line>, line: Option<Line>) -> Result<(), NoMemory>
-    ensures { OnOk result (lines.new ≡ lines.old ++ option_list line) }
-{
-    match line {
-        None => Ok(()),
-        Some(line) => lines.push(alloc, line),
     }
 }

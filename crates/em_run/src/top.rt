@@ -7,24 +7,26 @@ ghost use Rattle.em_base.specs.declared.refusals.Refusal.{Refusal};
 ghost use Rattle.em_io.specs.Bytes.{input_limit, Rose, Took};
 ghost use Rattle.em_bundle.specs.Application.{IsApplicationFor, IsBundleRefusedFor};
 ghost use Rattle.em_run.specs.declared.commands.Command.{Command};
+ghost use Rattle.em_run.specs.Agreed.{IsAgreed, is_run};
 ghost use Rattle.em_run.specs.Commands.{IsCommand, IsNoCommand};
 ghost use Rattle.em_run.specs.Output.{AreBytesOf, AreGiven, AreLeft, IsDue, IsOutput, IsOutputOf};
 ghost use Rattle.em_run.specs.Output.{Wrote, is_reader, is_replay, reading, refusal_text};
 
 use crate::answer::decide;
 use crate::status::Status;
-use em_bundle::one_application;
+use em_bundle::{one_application, replayable, sound_application};
 use em_io::{Sink, Source, write_all};
 use em_plain::whole_run;
 use em_ports::{Ports, Seen};
+use em_sched::{same_trace, valid_schedule};
 use std::alloc::Global;
 
 /// All that the program does. `words` are the words after its name: the command `run`, `trial`, `replay` or `list`, or `bench`
 /// with `--number` and its number of 32 bits, as the command line reads them. All but `bench` read the source to its end and
 /// take what they read for a bundle. `run` and `trial` run the application on the kernel, with the ports that are handed in,
-/// and write the trace and the end; `replay` runs it on the plain machine under the schedule that its bundle has, and writes
-/// the same parts; `list` writes the listing of its code. `bench` reads nothing and runs the workload of its number on the
-/// kernel, and writes one line of what the run came to. A port must be plugged in at each place.
+/// and write the trace, the schedule and the end; `replay` runs it on the plain machine under the schedule that its bundle has,
+/// and writes the trace and the end; `list` writes the listing of its code. `bench` reads nothing and runs the workload of its
+/// number on the kernel, and writes one line of what the run came to. A port must be plugged in at each place.
 ///
 /// The words are looked at first, then the source, then the length of what was read, then what it stands for; the first that
 /// is wrong decides the status, and then nothing is run and the ports stay as they were. Each status but `WriteFault` has one
@@ -103,6 +105,18 @@ pub fn emeralds<S: Source, K: Sink>(
         × IsCommand (map string_bytes words.now) command × AreBytesOf command read bytes
         × IsOutputOf command bytes (seen ports.old) Status.Misfit text (seen ports.new)
         × Wrote (K.written out.old) (K.written out.new) text }
+
+    // What a run or a trial writes is a trace, a schedule and an end. The trace is the one of the plain machine, of the same
+    // application and from the same ports, under the schedule that is written; and a replay of the bundle with that schedule
+    // writes it again.
+    ensures agrees { (result ≡ Status.Done) ⊎ (result ≡ Status.Lapped)
+        → let read = reading (S.left src.old) (S.left src.new) (S.faults src.old) (S.faults src.new) in
+        let seen = ⟦<Ports as Seen>⟧.seen_as in
+        (command : Command) × (bytes : List ℕ) × (text : List ℕ)
+        × IsCommand (map string_bytes words.now) command × AreBytesOf command read bytes
+        × Wrote (K.written out.old) (K.written out.new) text
+        × (is_run command ≡ true → IsAgreed bytes (seen ports.old) text) }
+
     ensures usage { result ≡ Status.Usage → let seen = ⟦<Ports as Seen>⟧.seen_as in
         IsNoCommand (map string_bytes words.now)
         × (S.left src.new ≡ S.left src.old) × (seen ports.new ≡ seen ports.old)
@@ -159,6 +173,11 @@ pub fn emeralds<S: Source, K: Sink>(
     one_application();
     // A whole replay is a part of itself, on which `left` rests.
     whole_run();
+    // A run has the trace of the plain machine under its schedule, which is valid and can be replayed: `agrees` rests on this.
+    same_trace();
+    valid_schedule();
+    sound_application();
+    replayable();
     let due = decide(alloc, words, src, ports);
     match write_all(out, due.text.as_bytes()) {
         Ok(()) => due.status,

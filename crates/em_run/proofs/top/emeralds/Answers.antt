@@ -1,6 +1,7 @@
 use Rattle.std.proofs.Common.{◌∙◌, take, inl, inr, subst}
 use Rattle.em_run.specs.Output.{Wrote}
 use Rattle.em_run.specs.Texts.{text_bytes}
+use Rattle.em_run.proofs.Agreements.{RunLaws, written}
 use Rattle.em_run.proofs.Complete.{are_left, complete, refuses, refuses_length, within_limit}
 use Rattle.em_run.proofs.top.emeralds.Goals as goal
 
@@ -38,3 +39,25 @@ returns-clause-write_fault g c = λ failed.
     let (n, within, wrote) = c.in-Err.ensures.part in
     let first = subst (λ text. Wrote (g.K.Sink.written c.args.out.now) (g.K.Sink.written c.write_all.new.out) (take n text)) c.as_bytes.ensures wrote in
     (c.in-Err.ensures.cause, (c.decide-due.result.status, text_bytes c.decide-due.result.text, n, c.decide-due.ensures.due, first))
+
+pub returns-in-Ok-clause-agrees : goal.returns-in-Ok-clause-agrees
+returns-in-Ok-clause-agrees g c = λ ended.
+    let laws : RunLaws = record {
+      table = c.sound_application.ensures.table;
+      script = c.sound_application.ensures.script;
+      words = c.sound_application.ensures.words;
+      trace = c.same_trace.ensures.trace;
+      first = c.same_trace.ensures.events;
+      rises = c.same_trace.ensures.rises;
+      valid = c.valid_schedule.ensures;
+      replays = c.replayable.ensures.app;
+    } in
+    let found = written laws _ _ _ _ _ _ ended c.decide-due.ensures.due in (
+      found.command,
+      found.bytes,
+      text_bytes c.decide-due.result.text,
+      found.words_are,
+      found.read_are,
+      subst (Wrote (g.K.Sink.written c.args.out.now) (g.K.Sink.written c.write_all.new.out)) c.as_bytes.ensures c.in-Ok.ensures.all,
+      found.agrees,
+    )
