@@ -14,7 +14,7 @@ const ONE_SHOT: &str =
 
 /// What the run of the bundle writes.
 const OUTPUT: &[u8] =
-    b"%trace\nrel 0 1 0 0\nout 0 0 7 7\nexit 0\n%end\nquiet clock 87 switches 1\n";
+    b"%trace\nrel 0 1 0 0\nout 0 0 7 7\nexit 0\n%schedule\n0 rel 0 0 0\n6 end\n%end\nquiet clock 87 switches 1\n";
 
 /// More than any test writes.
 const ROOM: usize = 4096;
