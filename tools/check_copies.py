@@ -3,11 +3,11 @@
 
     tools/check_copies.py
 
-The input and the output of the program's run in the gate (crates/emeralds) are the example one_shot and its trace
-(crates/cases/data). Each fenced block of README.md that begins with `%table` or `%trace`, or as a listing does, stands in a
-file of crates/cases/data: a bundle, a trace or a listing, whole or in part, line by line. In such a block and in the
-file a comment, from `#` on, and the blanks before it are left out, and so are empty lines. Prints what differs, and ends
-with status 1 where anything does.
+The input and the output of the program's run in the gate (crates/emeralds) are the example one_shot and what its run
+writes (crates/cases/data). Each fenced block of README.md that begins with `%table` or `%trace`, or as a listing does,
+stands in a file of crates/cases/data: a bundle, what a run writes or a listing, whole or in part, line by line. In such a
+block and in the file a comment, from `#` on, and the blanks before it are left out, and so are empty lines. Prints what
+differs, and ends with status 1 where anything does.
 """
 
 import re

@@ -4,7 +4,7 @@
     tools/kernel_speed.py [RUNS]
 
 It runs each of four bundles so many times, 3 if no number is given, and writes the least processor time of each in seconds, with how
-many steps and lines the run had:
+many lines its trace has, how many steps its tasks took and how it ended:
 
     busy      one task in a loop of a load, an addition, a store and a jump, which is the loop of hart_speed, to the greatest horizon
     contend   32 tasks that contend for 8 semaphores, to the greatest horizon
@@ -12,7 +12,7 @@ many steps and lines the run had:
     lines     a task that puts words to a port: 900,000 lines of trace
 
 Then it runs 32 tasks, of which the first goes round the loop of `busy` to the horizon, by `trial` and by `replay` under the schedule
-of that run, and 300,000 lines of a schedule by `replay`.
+that `trial` wrote, and 300,000 lines of a schedule by `replay`.
 
 The program must be built: `cd crates/emeralds && rt run -- list < ../cases/data/one_shot.bundle`. Where hart_speed is built too, its
 time for as many instructions as those of `busy` stands beside.
@@ -92,16 +92,27 @@ def seconds(words, text):
     return after.ru_utime + after.ru_stime - before.ru_utime - before.ru_stime, done.stdout.decode()
 
 
+def parts(text):
+    """The parts of an output, by their names: the lines of each."""
+    found = {}
+    for line in text.splitlines():
+        if line.startswith("%"):
+            lines = found[line[1:]] = []
+        else:
+            lines.append(line)
+    return found
+
+
 def main(words):
     """Measures each bundle."""
     runs = int(words[0]) if words else 3
     for name, text in (("busy", busy()), ("contend", contend()), ("events", events()), ("lines", lines())):
         times = [seconds([PROGRAM, "trial"], text) for _ in range(runs)]
-        out = times[0][1].splitlines()
-        print(f"{name}: {min(time for time, _ in times):.3f} s, {len(out)} lines of output, {out[-1]}")
-    # The releases and the switch take less than 3,000 cycles.
-    last = (HORIZON - 3_000) // 6 * 4
-    schedule = "%schedule\n" + "".join(f"0 rel {t} 0 0\n" for t in range(32)) + f"{last} end\n"
+        out = parts(times[0][1])
+        count = out["schedule"][-1].split()[0]
+        print(f"{name}: {min(time for time, _ in times):.3f} s, {len(out['trace'])} lines of trace, {count} steps, {out['end'][0]}")
+    own = parts(seconds([PROGRAM, "trial"], crowd())[1])["schedule"]
+    schedule = "%schedule\n" + "".join(f"{line}\n" for line in own)
     times = [(seconds([PROGRAM, "trial"], crowd())[0], seconds([PROGRAM, "replay"], crowd() + schedule)[0]) for _ in range(runs)]
     print(f"32 tasks: trial {min(a for a, _ in times):.3f} s, replay {min(b for _, b in times):.3f} s")
     schedule = "%schedule\n" + "0 rel 0 0 0\n" * 300_000 + "0 end\n"
