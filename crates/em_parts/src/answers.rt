@@ -1,10 +1,12 @@
-//! The tasks, the refusals and the charges of small applications.
+//! The tasks, the refusals and the charges of small applications, and the depths of messages.
 
-use em_base::{Charges, Status, TaskId};
+use em_admit::depth;
+use em_base::{Charges, MsgId, Status, TaskId};
 use em_bundle::load;
 use em_demand::charges;
 use em_gate::{Call, Facts, read_call, refusal, with_bit};
 use em_hart::Regs;
+use em_table::read_table;
 use em_threads::{Threads, Took};
 use std::test::Fail;
 
@@ -51,6 +53,44 @@ cost = 300
 p: li a7, 8
 ecall
 %script
+";
+
+/// A table of a writer with three messages: with two readers, with one of these, and with none.
+const MESSAGES: &str = "horizon = 10000
+[[task]]
+name = 'w'
+entry = 'w'
+kind = 'timer'
+period = 1000
+deadline = 900
+cost = 100
+writes = 2
+[[task]]
+name = 'r'
+entry = 'r'
+kind = 'timer'
+period = 600
+deadline = 500
+cost = 100
+[[task]]
+name = 's'
+entry = 's'
+kind = 'timer'
+period = 4000
+deadline = 3000
+cost = 100
+[[message]]
+words = 1
+writer = 'w'
+readers = ['s', 'r']
+[[message]]
+words = 1
+writer = 'w'
+readers = ['r']
+[[message]]
+words = 1
+writer = 'w'
+readers = []
 ";
 
 /// The first task.
@@ -130,5 +170,15 @@ fn charges_by_tasks_and_bands(rt: HostRuntime) -> Result<(), Fail> {
         };
         assert_eq!(rt; charges(&app.table), want);
     }
+    Ok(())
+}
+
+#[test]
+fn depths_by_readers(rt: HostRuntime) -> Result<(), Fail> {
+    let table = read_table(rt.alloc(), MESSAGES)?;
+    assert_eq!(rt; table.messages.as_slice().len(), 3);
+    assert_eq!(rt; depth(&table, MsgId(0)), 10);
+    assert_eq!(rt; depth(&table, MsgId(1)), 6);
+    assert_eq!(rt; depth(&table, MsgId(2)), 2);
     Ok(())
 }
