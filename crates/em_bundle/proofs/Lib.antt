@@ -12,3 +12,4 @@ pub mod EndedLines
 pub mod PartsBehind
 pub mod ScheduleBytes
 pub mod ScheduleBehind
+pub mod DeepBuffers

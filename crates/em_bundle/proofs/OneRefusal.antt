@@ -14,7 +14,7 @@ use Rattle.em_asm.specs.Image.{IsAssemblyRefused}
 use Rattle.em_script.specs.Script.{IsScriptRefused}
 use Rattle.em_trace.specs.ScheduleFaults.{IsScheduleRefused}
 use Rattle.em_bundle.specs.declared.faults.Fault.TheVariants.{MisplacedHeader, NotUtf8}
-use Rattle.em_bundle.specs.Application.{HasHint, HasMessages, HasNoEntry, IsAssembled, IsBroken, IsCoded, IsReadable, IsBundleRefusedFor, IsRefusedLines, IsRefusedOf, IsTabled, IsUncoded, IsUnscheduled, IsUnscripted, IsUntabled}
+use Rattle.em_bundle.specs.Application.{HasHint, HasMessages, HasNoEntry, IsAssembled, IsBroken, IsCoded, IsReadable, IsBundleRefusedFor, IsRefusedLines, IsRefusedOf, IsTabled, IsUncoded, IsUnscheduled, IsUnscripted, IsUntabled, message_fault}
 use Rattle.em_bundle.specs.Code.{AreUnhinted, HasNoImage, IsCodeRefused, IsFaultyText, IsHinted, IsMisread, hint_fault, line_of_wait, lines_in, number_in, statements_of}
 use Rattle.em_bundle.specs.Faults.{code_of, refusal_at}
 use Rattle.em_bundle.specs.Parts.{AreFirst, IsHeadless, IsMisplaced, IsShort, IsUncut, PartLines, headers, is_header, line_at, parts_of}
@@ -72,7 +72,8 @@ untabled_once : (parts : PartLines) (a b : Refusal) → IsUntabled parts a → I
 untabled_once parts a b h k = same_some _ a b h k
 
 messages_once : (parts : PartLines) (a b : Refusal) → HasMessages parts a → HasMessages parts b → a ≡ b
-messages_once parts a b h k = h.named ∙ sym k.named
+messages_once parts a b h k =
+    h.named ∙ ap (λ t. refusal_at (message_fault t) 1) (one_table parts h.table k.table h.tabled k.tabled) ∙ sym k.named
 
 messages_not_readable : (parts : PartLines) (refusal : Refusal) (table : Table) → HasMessages parts refusal → IsReadable parts table → ⊥
 messages_not_readable parts refusal table h r =

@@ -29,7 +29,7 @@ use Rattle.em_table.specs.Faults.{refusal_of}
 use Rattle.em_table.specs.Tests.{fault_in, fault_of, table_of}
 use Rattle.em_trace.specs.ScheduleFaults.{IsScheduleRefused}
 use Rattle.em_bundle.specs.declared.faults.Fault.TheVariants.{MissingEntry, NotSupported, NotUtf8}
-use Rattle.em_bundle.specs.Application.{IsApplicationFor, IsApplicationOf, IsAssembled, IsBroken, IsCoded, IsReadable, IsBundleRefusedFor, IsRefusedOf, IsScheduled, IsScripted, IsTabled, IsUntabled}
+use Rattle.em_bundle.specs.Application.{IsApplicationFor, IsApplicationOf, IsAssembled, IsBroken, IsCoded, IsReadable, IsBundleRefusedFor, IsRefusedOf, IsScheduled, IsScripted, IsTabled, IsUntabled, message_fault}
 use Rattle.em_bundle.specs.Code.{AllSay, AreUnhinted, IsCodeOf, IsCodeRefused, IsFaultyText, IsHinted, hint_fault, line_of_wait, lines_in, number_in, statements_of}
 use Rattle.em_bundle.specs.Faults.{code_of, refusal_at}
 use Rattle.em_bundle.specs.Parts.{PartLines, parts_of, text_of}
@@ -238,7 +238,7 @@ parts_or_refusal laws replay parts = elim (table_or_refusal parts) [
     by_messages table tabled [] e = by_code table record { tabled = tabled; without_messages = e }
     by_messages table tabled (message ∷ messages) e =
         let some : 0 < length table.messages = omega (arith, ap length e) in
-        inr (refusal_at NotSupported 1, inr (inl record { table = table; tabled = tabled; messages = some; named = refl }))
+        inr (refusal_at (message_fault table) 1, inr (inl record { table = table; tabled = tabled; messages = some; named = refl }))
 
 -- any bytes are those of an application or have a refusal
 pub some_application : Laws → (replay : Bool) (bytes : List ℕ)

@@ -1,5 +1,6 @@
 -- The application that the bytes of a bundle stand for, or the first thing that is wrong with them: this project's own.
-use Rattle.std.specs.Prelude.{◌≡◌, ℕ, ◌+◌, ◌<◌, ◌⊎◌, ⊤, Bool, true, false, nat_eq, List, [], length, take, count_by, Option, Some, None}
+use Rattle.std.specs.Prelude.{◌≡◌, ℕ, ◌+◌, ◌<◌, ◌⊎◌, ⊤, Bool, true, false, nat_eq, nat_lt, List, [], length, map, take, count_by, Option, Some, None, if◌then◌else◌}
+use Rattle.std.specs.List.{list_any, range_with_len}
 use Rattle.std.specs.Option.{option_map}
 use Rattle.std.specs.Str.{IsUtf8, IsValidUpTo}
 use Rattle.std.specs.Str.Lines.{lines}
@@ -19,7 +20,9 @@ use Rattle.em_table.specs.Tests.{fault_in, fault_of, table_of}
 use Rattle.em_script.specs.Script.{IsScriptOf, IsScriptRefused}
 use Rattle.em_trace.specs.ScheduleFaults.{IsScheduleRefused}
 use Rattle.em_trace.specs.Schedules.{IsScheduleOf}
-use Rattle.em_bundle.specs.declared.faults.Fault.TheVariants.{MissingEntry, NotSupported, NotUtf8}
+use Rattle.em_admit.specs.Depth.{depth}
+use Rattle.em_bundle.specs.declared.faults.Fault.{Fault}
+use Rattle.em_bundle.specs.declared.faults.Fault.TheVariants.{MissingEntry, NotSupported, NotUtf8, TooDeep}
 use Rattle.em_bundle.specs.Code.{AreUnhinted, IsCodeOf, IsCodeRefused, IsHinted}
 use Rattle.em_bundle.specs.Faults.{refusal_at}
 use Rattle.em_bundle.specs.Parts.{IsCut, IsUncut, PartLines, parts_of, text_of}
@@ -78,12 +81,24 @@ IsApplication bytes app = IsApplicationFor false bytes app
 abbrev pub IsUntabled : PartLines → Refusal → Type 0
 IsUntabled parts refusal = option_map refusal_of (fault_of (parse_document (text_of parts.table))) ≡ Some refusal
 
--- the table has messages, which aren't supported yet
+-- the most values that the buffer of a message may have to keep
+abbrev pub most_values : ℕ
+most_values = 64
+
+-- the buffer of a message of the table would have to keep more
+abbrev pub is_too_deep : Table → Bool
+is_too_deep table = list_any (λ values. nat_lt most_values values) (map (depth table) (range_with_len 0 (length table.messages)))
+
+-- what is wrong with a table that has messages: a buffer is too deep, or else that messages aren't supported yet
+abbrev pub message_fault : Table → Fault
+message_fault table = if is_too_deep table then TooDeep else NotSupported
+
+-- the table has messages
 pub record HasMessages (parts : PartLines) (refusal : Refusal) : Type 0 where
   pub table : Table
   pub tabled : IsTabled parts table
   pub messages : 0 < length table.messages
-  pub named : refusal ≡ refusal_at NotSupported 1
+  pub named : refusal ≡ refusal_at (message_fault table) 1
 
 -- the table part is this table, which has no messages
 pub record IsReadable (parts : PartLines) (table : Table) : Type 0 where

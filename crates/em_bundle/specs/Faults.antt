@@ -2,10 +2,11 @@
 use Rattle.std.specs.Prelude.{ℕ}
 use Rattle.em_base.specs.declared.refusals.Refusal.{Refusal}
 use Rattle.em_bundle.specs.declared.faults.Fault.{Fault}
-use Rattle.em_bundle.specs.declared.faults.Fault.TheVariants.{MissingPart, MisplacedHeader, MissingEntry, NotUtf8, NotSupported}
+use Rattle.em_bundle.specs.declared.faults.Fault.TheVariants.{TooDeep, MissingPart, MisplacedHeader, MissingEntry, NotUtf8, NotSupported}
 
 -- the code of a fault
 abbrev pub code_of : Fault → ℕ
+code_of TooDeep = 28
 code_of MissingPart = 40
 code_of MisplacedHeader = 41
 code_of MissingEntry = 42

@@ -7,6 +7,8 @@ use em_base::Refusal;
 /// What is wrong with a bundle beside its table, its lines of code and its script.
 #[derive(Clone, Copy, Debug, PartialEq, Eq)]
 pub enum Fault {
+    /// The buffer of a message would have to keep more than 64 values.
+    TooDeep,
     /// A part is missing, or the first line is no header line.
     MissingPart,
     /// A header line isn't the next one that is due.
@@ -26,6 +28,7 @@ impl Fault {
         ensures { result ≡ refusal_at self line }
     {
         let code = match self {
+            Fault::TooDeep => 28,
             Fault::MissingPart => 40,
             Fault::MisplacedHeader => 41,
             Fault::MissingEntry => 42,

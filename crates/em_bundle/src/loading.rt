@@ -11,6 +11,7 @@ ghost use Rattle.em_base.specs.Images.{IsWhole};
 ghost use Rattle.em_base.specs.Tables.{IsTable};
 ghost use Rattle.em_trace.specs.ScheduleFaults.{IsScheduleFail};
 ghost use Rattle.em_trace.specs.Schedules.{IsSchedule};
+ghost use Rattle.em_bundle.specs.Application as spec;
 ghost use Rattle.em_bundle.specs.Application.{IsApplicationFor, IsApplicationOf, IsBundleFail};
 ghost use Rattle.em_bundle.specs.Application.{IsBundleRefusedFor, IsCoded, IsImageFail, IsPartsFail};
 ghost use Rattle.em_bundle.specs.Application.{IsScheduled, IsTableFail, IsTabled};
@@ -22,12 +23,16 @@ use crate::faults::Fault;
 use crate::laws::one_application;
 use crate::parts::{Parts, cut};
 use crate::texts::{line_of, with_line_feeds};
-use em_base::{App, Fail, HintMap, Image, Items, Name, Schedule, Table};
+use em_admit::depth;
+use em_base::{App, Fail, HintMap, Image, Items, MsgId, Name, Schedule, Table};
 use em_script::read_script;
 use em_table::read_table;
 use em_trace::read_schedule;
 use std::alloc::Global;
 use std::str;
+
+/// The most values that the buffer of a message may have to keep.
+const MOST_VALUES: u128 = 64;
 
 /// The table of a bundle, which has no messages.
 fn load_table(alloc: Global, parts: &Parts<'_>) -> Result<Table, Fail>
@@ -40,9 +45,34 @@ fn load_table(alloc: Global, parts: &Parts<'_>) -> Result<Table, Fail>
     let text = with_line_feeds(alloc, parts.table)?;
     let table = read_table(alloc, text.as_str())?;
     if !table.messages.as_slice().is_empty() {
-        return Err(Fail::Refused(Fault::NotSupported.at(1)));
+        return Err(Fail::Refused(message_fault(&table).at(1)));
     }
     Ok(table)
+}
+
+/// What is wrong with a table that has messages: a buffer is too deep, or else that messages aren't supported yet.
+fn message_fault(table: &Table) -> Fault
+    requires { IsTable table.now }
+    ensures { result ≡ spec.message_fault table.now }
+{
+    if is_too_deep(table) {
+        Fault::TooDeep
+    } else {
+        Fault::NotSupported
+    }
+}
+
+/// Whether the buffer of a message would have to keep more than 64 values.
+fn is_too_deep(table: &Table) -> bool
+    requires { IsTable table.now }
+    ensures { result ≡ spec.is_too_deep table.now }
+{
+    for m in 0..table.messages.as_slice().len() {
+        if depth(table, MsgId(m as u8)) > MOST_VALUES {
+            return true;
+        }
+    }
+    false
 }
 
 /// The image of a bundle, in which each task of its table has its entry and no `waitjob` a semaphore beside it.
@@ -152,7 +182,8 @@ fn load_bytes(alloc: Global, bytes: &[u8], replay: bool) -> Result<App, Fail>
 ///
 /// * 43: the bytes are no UTF-8;
 /// * 40, 41: the first line is no header line (40), a header line isn't the next one due (41), headers are due at the end (40);
-/// * 20 to 27: the table is refused, as [`read_table`] refuses it; then 60 where it has messages, which aren't supported yet;
+/// * 20 to 27: the table is refused, as [`read_table`] refuses it; then 28 where the buffer of a message would have to keep more
+///   than 64 values, and 60 where it has messages at all, which aren't supported yet;
 /// * 1 to 10: the code is refused, as [`em_asm_read::read_line`] and [`em_asm::assemble_numbered`] refuse it;
 /// * 42: the entry of a task is no label of the code;
 /// * 60: a `waitjob` has a semaphore beside it, which isn't supported yet;
