@@ -3,13 +3,16 @@
 
     tools/kernel_speed.py [RUNS]
 
-It runs each of four bundles so many times, 3 if no number is given, and writes the least processor time of each in seconds, with how
+It runs each of seven bundles so many times, 3 if no number is given, and writes the least processor time of each in seconds, with how
 many lines its trace has, how many steps its tasks took and how it ended:
 
     busy      one task in a loop of a load, an addition, a store and a jump, which is the loop of hart_speed, to the greatest horizon
     contend   32 tasks that contend for 8 semaphores, to the greatest horizon
     events    200,000 releases by timers and 100,000 events of the script
     lines     a task that puts words to a port: 900,000 lines of trace
+    messages  16 messages of 16 words, each with a writer and a reader, in buffers of 64 values, to the greatest horizon
+    copies    a task that reads 16 words of a message again and again, to the greatest horizon
+    loads     a task that loads 16 words again and again, to the greatest horizon
 
 Then it runs 32 tasks, of which the first goes round the loop of `busy` to the horizon, by `trial` and by `replay` under the schedule
 that `trial` wrote, and 300,000 lines of a schedule by `replay`.
@@ -84,6 +87,33 @@ def crowd():
     return bundle([task(f"t{t}", HORIZON).replace(f'entry = "t{t}"', 'entry = "a"') for t in range(32)], code)
 
 
+def with_messages(text, messages):
+    """The bundle with the rows of messages behind its tasks: their words, their writers and their readers."""
+    rows = "".join(f'[[message]]\nwords = {words}\nwriter = "{writer}"\nreaders = ["{reader}"]\n' for words, writer, reader in messages)
+    return text.replace("%code\n", rows + "%code\n", 1)
+
+
+def messages():
+    """32 tasks; sixteen write a message of 16 words each, and the others read them. Each buffer keeps 64 values."""
+    tasks = [task(f"w{m}", 10_000, 100 * m).replace("deadline = 10000", "deadline = 5000\nwrites = 31") for m in range(16)]
+    tasks += [task(f"r{m}", 10_000, 130 * m).replace("deadline = 10000", "deadline = 5000") for m in range(16)]
+    code = "".join(f"w{m}: li a7, 5\nli a0, {m}\nli a1, 0x10000000\necall\nwaitjob\nj w{m}\n" for m in range(16))
+    code += "".join(f"r{m}: li a7, 6\nli a0, {m}\nli a1, 0x10000000\necall\nwaitjob\nj r{m}\n" for m in range(16))
+    return with_messages(bundle(tasks, code), [(16, f"w{m}", f"r{m}") for m in range(16)])
+
+
+def copies():
+    """One task that reads a message of 16 words again and again, some 364,000 times."""
+    code = "a: li a7, 6\nli a1, 0x10000000\nloop: li a0, 0\necall\nj loop\n"
+    return with_messages(bundle([task("a", HORIZON)], code), [(16, "a", "a")])
+
+
+def loads():
+    """One task that loads 16 words again and again, some 606,000 times."""
+    words = "".join(f"lw t1, {4 * i}(t0)\n" for i in range(16))
+    return bundle([task("a", HORIZON)], f"a: li t0, 0x10000000\nloop: {words}j loop\n")
+
+
 def seconds(words, text):
     """The processor time of the program on a text, and what it wrote."""
     before = resource.getrusage(resource.RUSAGE_CHILDREN)
@@ -106,7 +136,8 @@ def parts(text):
 def main(words):
     """Measures each bundle."""
     runs = int(words[0]) if words else 3
-    for name, text in (("busy", busy()), ("contend", contend()), ("events", events()), ("lines", lines())):
+    for name, text in (("busy", busy()), ("contend", contend()), ("events", events()), ("lines", lines()), ("messages", messages()),
+                       ("copies", copies()), ("loads", loads())):
         times = [seconds([PROGRAM, "trial"], text) for _ in range(runs)]
         out = parts(times[0][1])
         count = out["schedule"][-1].split()[0]

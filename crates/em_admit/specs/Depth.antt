@@ -1,5 +1,5 @@
 -- How many values the buffer of a state message keeps, by the table: this project's own.
-use Rattle.std.specs.Prelude.{ℕ, ◌+◌, ◌*◌, ◌/◌, ◌≤◌, List, [], map, slice_index_or, All, None}
+use Rattle.std.specs.Prelude.{ℕ, ◌+◌, ◌*◌, ◌/◌, ◌<◌, ◌≤◌, List, [], length, map, slice_index_or, All, None}
 use Rattle.std.specs.Option.{unwrap_or}
 use Rattle.em_base.specs.declared.ids.TaskId.{TaskId}
 use Rattle.em_base.specs.declared.tables.Kind.TheVariants.{Background}
@@ -69,3 +69,11 @@ depth table m = 2 + greatest_bound table.tasks (message_at table.messages m)
 pub record IsDeepEnough (table : Table) (m n : ℕ) : Type 0 where
   pub two : 2 ≤ n
   pub readers : let message = message_at table.messages m in All (λ reader. 2 + bound table.tasks message.writer reader ≤ n) message.readers
+
+-- the most values that a buffer may keep
+abbrev pub most_values : ℕ
+most_values = 64
+
+-- no buffer of a message is to keep more values than that
+abbrev pub AreShallow : Table → Type 0
+AreShallow table = (m : ℕ) → m < length table.messages → depth table m ≤ most_values

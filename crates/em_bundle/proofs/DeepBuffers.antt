@@ -1,36 +1,36 @@
 -- Whether the buffer of a message is too deep, message by message.
-use Rattle.std.proofs.Common.{◌≡◌, ◌∙◌, ℕ, ◌+◌, ◌<◌, ◌≤◌, ◌||◌, Bool, true, false, List, [], ◌∷◌, ◌++◌, length, map, nat_lt, sym, ap, subst, refl, arith}
-use Rattle.std.specs.List.{list_any, range_with_len}
-use Rattle.std.proofs.lemmas.Bool.{lt-ltb}
-use Rattle.std.proofs.lemmas.Bool.Decides.{nat_tests}
-use Rattle.std.proofs.lemmas.List.Folds.{list_any-append, list_any_at}
-use Rattle.std.proofs.lemmas.List.FromFn.{get_or-map-range_with_len, length-map-range_with_len, map-range_with_len_more}
+use Rattle.std.proofs.Common.{◌≡◌, ℕ, zero, suc, ◌+◌, ◌<◌, ◌≤◌, ◌⊎◌, length, inl, inr, ap, subst, arith}
+use Rattle.std.proofs.lemmas.Bool.{cases_lt}
 use Rattle.em_base.specs.declared.tables.Table.{Table}
-use Rattle.em_admit.specs.Depth.{depth}
-use Rattle.em_bundle.specs.Application.{is_too_deep, most_values}
+use Rattle.em_admit.specs.Depth.{AreShallow, depth, most_values}
+use Rattle.em_bundle.specs.Application.{HasDeepBuffer}
 
--- a number of values that is more than there may be
-abbrev is_more : ℕ → Bool
-is_more values = nat_lt most_values values
+-- no buffer of the first n messages is
+abbrev pub AreShallowTo : Table → ℕ → Type 0
+AreShallowTo table n = (m : ℕ) → m < n → depth table m ≤ most_values
 
--- one buffer is
-pub deep_here : (table : Table) (m values : ℕ) → m < length table.messages → values ≡ depth table m → most_values < values → true ≡ is_too_deep table
-deep_here table m values h is more =
-    let n = length table.messages in
-    let long : m < length (map (depth table) (range_with_len 0 n)) = subst (λ k. m < k) (sym (length-map-range_with_len (depth table) 0 n)) h in
-    let from : 0 + m ≡ m = omega arith in
-    sym (list_any_at is_more (map (depth table) (range_with_len 0 n)) m 0 long
-    (ap is_more (get_or-map-range_with_len (depth table) 0 n m m 0 h from ∙ sym is) ∙ lt-ltb most_values values more))
+-- nor of one more
+pub one_more : (table : Table) (n : ℕ) → AreShallowTo table n → depth table n ≤ most_values → AreShallowTo table (n + 1)
+one_more table n shallow few m h = elim (cases_lt m n) [
+  | inl before ↦ shallow m before
+  | inr other ↦ (let same : n ≡ m = omega (arith, h, other) in subst (λ k. depth table k ≤ most_values) same few)
+]
 
-not_more : (values : ℕ) → values ≤ most_values → is_more values ≡ false
-not_more values h = grind (arith, nat_tests, h)
+-- a buffer of the first n messages is, or none
+some_or_none : (table : Table) (n : ℕ) → n ≤ length table.messages → HasDeepBuffer table ⊎ AreShallowTo table n
+some_or_none table zero h = inr (λ m before. absurd (omega (arith, before)))
+some_or_none table (suc n) h = elim (some_or_none table n (omega (arith, h))) [
+  | inl buffer ↦ inl buffer
+  | inr shallow ↦ elim (cases_lt most_values (depth table n)) [
+    | inl deep ↦ inl record { m = n; here = omega (arith, h); deep = deep }
+    | inr few ↦ inr (subst (AreShallowTo table) (omega arith) (one_more table n shallow (omega (arith, few))))
+  ]
+]
 
--- one buffer more isn't
-pub none_more : (table : Table) (m values : ℕ) → list_any is_more (map (depth table) (range_with_len 0 m)) ≡ false → values ≡ depth table m → values ≤ most_values
-    → list_any is_more (map (depth table) (range_with_len 0 (m + 1))) ≡ false
-none_more table m values none is few =
-    let from : 0 + m ≡ m = omega arith in
-    ap (list_any is_more) (map-range_with_len_more (depth table) 0 m m from)
-    ∙ list_any-append is_more (map (depth table) (range_with_len 0 m)) (depth table m ∷ [])
-    ∙ ap (λ b. b || list_any is_more (depth table m ∷ [])) none
-    ∙ ap (λ b. b || false) (ap is_more (sym is) ∙ not_more values few)
+-- a buffer of a table is too deep, or none is
+pub deep_or_shallow : (table : Table) → HasDeepBuffer table ⊎ AreShallow table
+deep_or_shallow table = some_or_none table (length table.messages) (omega arith)
+
+-- and never both
+pub deep_not_shallow : (table : Table) → HasDeepBuffer table → AreShallow table → ⊥
+deep_not_shallow table buffer shallow = absurd (omega (arith, buffer.deep, shallow buffer.m buffer.here))

@@ -30,10 +30,11 @@ use Rattle.em_table.specs.Tests.{fault_of, table_of}
 use Rattle.em_script.specs.Script.{IsScriptOf, IsScriptRefused}
 use Rattle.em_trace.specs.ScheduleFaults.{IsScheduleRefused}
 use Rattle.em_trace.specs.Schedules.{IsScheduleOf}
-use Rattle.em_bundle.specs.Application.{IsApplicationFor, IsApplicationOf, IsBundleRefusedFor, IsRefusedOf, IsScheduled, IsTabled, IsUntabled}
+use Rattle.em_bundle.specs.Application.{HasDeepBuffer, IsApplicationFor, IsApplicationOf, IsBundleRefusedFor, IsRefusedOf, IsScheduled, IsTabled, IsUntabled}
 use Rattle.em_bundle.specs.Code.{AllSay, AreUnhinted, IsCodeOf, IsCodeRefused, IsHinted, IsMisread, hint_fault, line_of_wait, lines_in, number_in, statements_of}
 use Rattle.em_bundle.specs.Faults.{code_of}
 use Rattle.em_bundle.specs.Parts.{AreFirst, IsCut, IsShort, IsUncut, PartLines, headers, headers_in, is_header, line_at, parts_of, text_of}
+use Rattle.em_bundle.proofs.DeepBuffers.{deep_not_shallow}
 
 -- what holds of the lines of assembly, of the images of statements, of scripts and of schedules
 pub record Laws : Type 0 where
@@ -190,8 +191,7 @@ scheduled_not_refused laws false parts table schedule refusal s e r = absurd (cc
 parts_not_refused : Laws → (replay : Bool) (parts : PartLines) (app : App) (refusal : Refusal) → IsApplicationOf replay parts app → IsRefusedOf replay parts refusal → ⊥
 parts_not_refused laws replay parts app refusal a (inl u) = table_not_refusal parts app.table refusal a.table u
 parts_not_refused laws replay parts app refusal a (inr (inl m)) =
-    let none : m.table.messages ≡ [] = ap (λ t. t.messages) (one_table parts m.table app.table m.tabled a.table) ∙ a.without_messages in
-    absurd (omega (arith, ap length none, m.messages))
+    deep_not_shallow app.table (subst HasDeepBuffer (one_table parts m.table app.table m.tabled a.table) m.buffer) a.shallow
 parts_not_refused laws replay parts app refusal a (inr (inr (inl u))) = code_not_refusal laws (parts.code_line + 1) parts.code app.image refusal a.code u.refused
 parts_not_refused laws replay parts app refusal a (inr (inr (inr (inl e)))) =
     let image = one_code laws (parts.code_line + 1) parts.code e.image app.image e.coded a.code in

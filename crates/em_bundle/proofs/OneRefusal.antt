@@ -14,10 +14,11 @@ use Rattle.em_asm.specs.Image.{IsAssemblyRefused}
 use Rattle.em_script.specs.Script.{IsScriptRefused}
 use Rattle.em_trace.specs.ScheduleFaults.{IsScheduleRefused}
 use Rattle.em_bundle.specs.declared.faults.Fault.TheVariants.{MisplacedHeader, NotUtf8}
-use Rattle.em_bundle.specs.Application.{HasHint, HasMessages, HasNoEntry, IsAssembled, IsBroken, IsCoded, IsReadable, IsBundleRefusedFor, IsRefusedLines, IsRefusedOf, IsTabled, IsUncoded, IsUnscheduled, IsUnscripted, IsUntabled, message_fault}
+use Rattle.em_bundle.specs.Application.{HasDeepBuffer, HasHint, HasNoEntry, IsAssembled, IsBroken, IsCoded, IsReadable, IsBundleRefusedFor, IsRefusedLines, IsRefusedOf, IsTabled, IsTooDeep, IsUncoded, IsUnscheduled, IsUnscripted, IsUntabled}
 use Rattle.em_bundle.specs.Code.{AreUnhinted, HasNoImage, IsCodeRefused, IsFaultyText, IsHinted, IsMisread, hint_fault, line_of_wait, lines_in, number_in, statements_of}
 use Rattle.em_bundle.specs.Faults.{code_of, refusal_at}
 use Rattle.em_bundle.specs.Parts.{AreFirst, IsHeadless, IsMisplaced, IsShort, IsUncut, PartLines, headers, is_header, line_at, parts_of}
+use Rattle.em_bundle.proofs.DeepBuffers.{deep_not_shallow}
 use Rattle.em_bundle.proofs.OneApplication.{Laws, code_not_refusal, cut_not_uncut, items_not_misread, not_misplaced, one_answer, one_code, one_table, same_items, table_not_refusal, unhinted_not_hinted, utf8_not_broken}
 
 -- two kinds of refusal, of which the later stands only where the first doesn't
@@ -71,14 +72,12 @@ same_some o a b e f = cc
 untabled_once : (parts : PartLines) (a b : Refusal) → IsUntabled parts a → IsUntabled parts b → a ≡ b
 untabled_once parts a b h k = same_some _ a b h k
 
-messages_once : (parts : PartLines) (a b : Refusal) → HasMessages parts a → HasMessages parts b → a ≡ b
-messages_once parts a b h k =
-    h.named ∙ ap (λ t. refusal_at (message_fault t) 1) (one_table parts h.table k.table h.tabled k.tabled) ∙ sym k.named
+deep_once : (parts : PartLines) (a b : Refusal) → IsTooDeep parts a → IsTooDeep parts b → a ≡ b
+deep_once parts a b h k = h.named ∙ sym k.named
 
-messages_not_readable : (parts : PartLines) (refusal : Refusal) (table : Table) → HasMessages parts refusal → IsReadable parts table → ⊥
-messages_not_readable parts refusal table h r =
-    let none : h.table.messages ≡ [] = ap (λ t. t.messages) (one_table parts h.table table h.tabled r.tabled) ∙ r.without_messages in
-    absurd (omega (arith, ap length none, h.messages))
+deep_not_readable : (parts : PartLines) (refusal : Refusal) (table : Table) → IsTooDeep parts refusal → IsReadable parts table → ⊥
+deep_not_readable parts refusal table h r =
+    deep_not_shallow table (subst HasDeepBuffer (one_table parts h.table table h.tabled r.tabled) h.buffer) r.shallow
 
 -- ---- the code
 
@@ -182,7 +181,7 @@ readable replay parts refusal (inr (inr later)) = let l = assembled replay parts
 
 -- the table part is a table
 tabled : (replay : Bool) (parts : PartLines) (refusal : Refusal)
-    → HasMessages parts refusal ⊎ (IsUncoded parts refusal ⊎ (HasNoEntry parts refusal ⊎ (HasHint parts refusal ⊎ IsLate replay parts refusal)))
+    → IsTooDeep parts refusal ⊎ (IsUncoded parts refusal ⊎ (HasNoEntry parts refusal ⊎ (HasHint parts refusal ⊎ IsLate replay parts refusal)))
     → (table : Table) × IsTabled parts table
 tabled replay parts refusal (inl m) = (m.table, m.tabled)
 tabled replay parts refusal (inr later) = let r = readable replay parts refusal later in (r.0, r.1.tabled)
@@ -192,7 +191,7 @@ tabled replay parts refusal (inr later) = let r = readable replay parts refusal 
 parts_once : Laws → (replay : Bool) (parts : PartLines) (a b : Refusal) → IsRefusedOf replay parts a → IsRefusedOf replay parts b → a ≡ b
 parts_once laws replay parts =
     first_or_later (untabled_once parts) (λ a b h k. (let t = tabled replay parts b k in table_not_refusal parts t.0 a t.1 h))
-    (first_or_later (messages_once parts) (λ a b h k. (let r = readable replay parts b k in messages_not_readable parts a r.0 h r.1))
+    (first_or_later (deep_once parts) (λ a b h k. (let r = readable replay parts b k in deep_not_readable parts a r.0 h r.1))
     (first_or_later (uncoded_once laws parts) (λ a b h k. uncoded_not_coded laws parts a h (coded replay parts b k))
     (first_or_later (entry_once parts) (λ a b h k. (let l = assembled replay parts b k in entry_not_assembled laws parts a l.0 l.1 h l.2))
     (first_or_later (hint_once laws parts) (hint_not_late laws replay parts)

@@ -61,7 +61,7 @@ of-parts : (parts : PartLines) (app : App) (number : ℕ) (schedule : Schedule) 
     (record app { schedule = Some schedule })
 of-parts parts app number schedule a h = record {
   table = record { top = a.table.top; parsed = a.table.parsed; clear = a.table.clear; same = a.table.same };
-  without_messages = a.without_messages;
+  shallow = a.shallow;
   code = a.code;
   entries = a.entries;
   unhinted = a.unhinted;

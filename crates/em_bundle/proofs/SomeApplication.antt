@@ -17,7 +17,6 @@ use Rattle.em_base.specs.declared.events.Timed.{Timed}
 use Rattle.em_base.specs.declared.images.Image.{Image}
 use Rattle.em_base.specs.declared.images.Wait.{Wait}
 use Rattle.em_base.specs.declared.refusals.Refusal.{Refusal}
-use Rattle.em_base.specs.declared.tables.MsgRow.{MsgRow}
 use Rattle.em_base.specs.declared.tables.Table.{Table}
 use Rattle.em_base.specs.Apps.{have_entries}
 use Rattle.em_base.specs.FirstFault.{AreClear, by_test}
@@ -28,12 +27,13 @@ use Rattle.em_table.specs.declared.faults.Fault.TheVariants.{NoToml}
 use Rattle.em_table.specs.Faults.{refusal_of}
 use Rattle.em_table.specs.Tests.{fault_in, fault_of, table_of}
 use Rattle.em_trace.specs.ScheduleFaults.{IsScheduleRefused}
-use Rattle.em_bundle.specs.declared.faults.Fault.TheVariants.{MissingEntry, NotSupported, NotUtf8}
-use Rattle.em_bundle.specs.Application.{IsApplicationFor, IsApplicationOf, IsAssembled, IsBroken, IsCoded, IsReadable, IsBundleRefusedFor, IsRefusedOf, IsScheduled, IsScripted, IsTabled, IsUntabled, message_fault}
+use Rattle.em_bundle.specs.declared.faults.Fault.TheVariants.{MissingEntry, NotUtf8, TooDeep}
+use Rattle.em_bundle.specs.Application.{IsApplicationFor, IsApplicationOf, IsAssembled, IsBroken, IsCoded, IsReadable, IsBundleRefusedFor, IsRefusedOf, IsScheduled, IsScripted, IsTabled, IsUntabled}
 use Rattle.em_bundle.specs.Code.{AllSay, AreUnhinted, IsCodeOf, IsCodeRefused, IsFaultyText, IsHinted, hint_fault, line_of_wait, lines_in, number_in, statements_of}
 use Rattle.em_bundle.specs.Faults.{code_of, refusal_at}
 use Rattle.em_bundle.specs.Parts.{PartLines, parts_of, text_of}
 use Rattle.em_bundle.proofs.CutOrUncut.{cut_or_uncut}
+use Rattle.em_bundle.proofs.DeepBuffers.{deep_or_shallow}
 use Rattle.em_bundle.proofs.OneApplication.{Laws, one_answer}
 
 -- ---- UTF-8
@@ -156,7 +156,7 @@ scheduled_or_refused laws true parts table = elim (laws.schedule_or_refusal (par
 -- parts are those of an application or have a refusal
 parts_or_refusal : Laws → (replay : Bool) (parts : PartLines) → ((app : App) × IsApplicationOf replay parts app) ⊎ ((refusal : Refusal) × IsRefusedOf replay parts refusal)
 parts_or_refusal laws replay parts = elim (table_or_refusal parts) [
-  | inl table ↦ by_messages table.0 table.1 table.0.messages refl
+  | inl table ↦ by_depth table.0 table.1
   | inr u ↦ inr (u.0, inl u.1)
 ]
   where
@@ -174,7 +174,7 @@ parts_or_refusal laws replay parts = elim (table_or_refusal parts) [
       },
       record {
         table = assembled.readable.tabled;
-        without_messages = assembled.readable.without_messages;
+        shallow = assembled.readable.shallow;
         code = assembled.coded;
         entries = assembled.entries;
         unhinted = unhinted;
@@ -233,12 +233,11 @@ parts_or_refusal laws replay parts = elim (table_or_refusal parts) [
       | inr u ↦ inr (u.0, inr (inr (inl record { table = table; readable = readable; refused = u.1 })))
     ]
 
-    by_messages : (table : Table) → IsTabled parts table → (messages : List MsgRow) → table.messages ≡ messages
-        → ((app : App) × IsApplicationOf replay parts app) ⊎ ((refusal : Refusal) × IsRefusedOf replay parts refusal)
-    by_messages table tabled [] e = by_code table record { tabled = tabled; without_messages = e }
-    by_messages table tabled (message ∷ messages) e =
-        let some : 0 < length table.messages = omega (arith, ap length e) in
-        inr (refusal_at (message_fault table) 1, inr (inl record { table = table; tabled = tabled; messages = some; named = refl }))
+    by_depth : (table : Table) → IsTabled parts table → ((app : App) × IsApplicationOf replay parts app) ⊎ ((refusal : Refusal) × IsRefusedOf replay parts refusal)
+    by_depth table tabled = elim (deep_or_shallow table) [
+      | inl buffer ↦ inr (refusal_at TooDeep 1, inr (inl record { table = table; tabled = tabled; buffer = buffer; named = refl }))
+      | inr shallow ↦ by_code table record { tabled = tabled; shallow = shallow }
+    ]
 
 -- any bytes are those of an application or have a refusal
 pub some_application : Laws → (replay : Bool) (bytes : List ℕ)

@@ -1,6 +1,5 @@
 -- The application that the bytes of a bundle stand for, or the first thing that is wrong with them: this project's own.
-use Rattle.std.specs.Prelude.{◌≡◌, ℕ, ◌+◌, ◌<◌, ◌⊎◌, ⊤, Bool, true, false, nat_eq, nat_lt, List, [], length, map, take, count_by, Option, Some, None, if◌then◌else◌}
-use Rattle.std.specs.List.{list_any, range_with_len}
+use Rattle.std.specs.Prelude.{◌≡◌, ℕ, ◌+◌, ◌<◌, ◌⊎◌, ⊤, Bool, true, false, nat_eq, List, [], length, take, count_by, Option, Some, None}
 use Rattle.std.specs.Option.{option_map}
 use Rattle.std.specs.Str.{IsUtf8, IsValidUpTo}
 use Rattle.std.specs.Str.Lines.{lines}
@@ -20,9 +19,8 @@ use Rattle.em_table.specs.Tests.{fault_in, fault_of, table_of}
 use Rattle.em_script.specs.Script.{IsScriptOf, IsScriptRefused}
 use Rattle.em_trace.specs.ScheduleFaults.{IsScheduleRefused}
 use Rattle.em_trace.specs.Schedules.{IsScheduleOf}
-use Rattle.em_admit.specs.Depth.{depth}
-use Rattle.em_bundle.specs.declared.faults.Fault.{Fault}
-use Rattle.em_bundle.specs.declared.faults.Fault.TheVariants.{MissingEntry, NotSupported, NotUtf8, TooDeep}
+use Rattle.em_admit.specs.Depth.{AreShallow, depth, most_values}
+use Rattle.em_bundle.specs.declared.faults.Fault.TheVariants.{MissingEntry, NotUtf8, TooDeep}
 use Rattle.em_bundle.specs.Code.{AreUnhinted, IsCodeOf, IsCodeRefused, IsHinted}
 use Rattle.em_bundle.specs.Faults.{refusal_at}
 use Rattle.em_bundle.specs.Parts.{IsCut, IsUncut, PartLines, parts_of, text_of}
@@ -55,7 +53,7 @@ IsScheduled false parts table schedule = schedule ≡ None
 -- the parts are those of this application
 pub record IsApplicationOf (replay : Bool) (parts : PartLines) (app : App) : Type 0 where
   pub table : IsTabled parts app.table
-  pub without_messages : app.table.messages ≡ []
+  pub shallow : AreShallow app.table
   pub code : IsCoded parts app.image
   pub entries : have_entries app.image app.table.tasks ≡ true
   pub unhinted : AreUnhinted app.image.waits
@@ -81,29 +79,23 @@ IsApplication bytes app = IsApplicationFor false bytes app
 abbrev pub IsUntabled : PartLines → Refusal → Type 0
 IsUntabled parts refusal = option_map refusal_of (fault_of (parse_document (text_of parts.table))) ≡ Some refusal
 
--- the most values that the buffer of a message may have to keep
-abbrev pub most_values : ℕ
-most_values = 64
+-- the buffer of a message of the table would have to keep more values than one may
+pub record HasDeepBuffer (table : Table) : Type 0 where
+  pub m : ℕ
+  pub here : m < length table.messages
+  pub deep : most_values < depth table m
 
--- the buffer of a message of the table would have to keep more
-abbrev pub is_too_deep : Table → Bool
-is_too_deep table = list_any (λ values. nat_lt most_values values) (map (depth table) (range_with_len 0 (length table.messages)))
-
--- what is wrong with a table that has messages: a buffer is too deep, or else that messages aren't supported yet
-abbrev pub message_fault : Table → Fault
-message_fault table = if is_too_deep table then TooDeep else NotSupported
-
--- the table has messages
-pub record HasMessages (parts : PartLines) (refusal : Refusal) : Type 0 where
+-- the table is too deep
+pub record IsTooDeep (parts : PartLines) (refusal : Refusal) : Type 0 where
   pub table : Table
   pub tabled : IsTabled parts table
-  pub messages : 0 < length table.messages
-  pub named : refusal ≡ refusal_at (message_fault table) 1
+  pub buffer : HasDeepBuffer table
+  pub named : refusal ≡ refusal_at TooDeep 1
 
--- the table part is this table, which has no messages
+-- the table part is this table, which isn't too deep
 pub record IsReadable (parts : PartLines) (table : Table) : Type 0 where
   pub tabled : IsTabled parts table
-  pub without_messages : table.messages ≡ []
+  pub shallow : AreShallow table
 
 -- the code part is refused
 pub record IsUncoded (parts : PartLines) (refusal : Refusal) : Type 0 where
@@ -156,7 +148,7 @@ pub record IsUnscheduled (replay : Bool) (parts : PartLines) (refusal : Refusal)
 abbrev pub IsRefusedOf : Bool → PartLines → Refusal → Type 0
 IsRefusedOf replay parts refusal =
     IsUntabled parts refusal
-    ⊎ (HasMessages parts refusal
+    ⊎ (IsTooDeep parts refusal
     ⊎ (IsUncoded parts refusal
     ⊎ (HasNoEntry parts refusal
     ⊎ (HasHint parts refusal
@@ -196,7 +188,7 @@ IsPartsFail replay parts (Refused refusal) = IsRefusedOf replay parts refusal
 IsPartsFail replay parts NoMemory = ⊤
 
 abbrev pub IsTableFail : PartLines → Fail → Type 0
-IsTableFail parts (Refused refusal) = IsUntabled parts refusal ⊎ HasMessages parts refusal
+IsTableFail parts (Refused refusal) = IsUntabled parts refusal ⊎ IsTooDeep parts refusal
 IsTableFail parts NoMemory = ⊤
 
 abbrev pub IsImageFail : PartLines → Table → Fail → Type 0

@@ -1,5 +1,5 @@
 //! The application that the bytes of a bundle stand for.
-ghost use Rattle.std.specs.Prelude.{◌≡◌, ◌⊎◌, ◌<◌, ◌≤◌, ◌^◌, ◌+◌, [], true, is_some, length};
+ghost use Rattle.std.specs.Prelude.{◌≡◌, ◌⊎◌, ◌<◌, ◌≤◌, ◌^◌, ◌+◌, true, false, is_some, length};
 ghost use Rattle.std.specs.Prelude.{IfErr, IfOk, IfSome, MatchResult, string_bytes};
 ghost use Rattle.std.specs.Str.Lines.{lines};
 ghost use Rattle.em_base.specs.declared.apps.App.{App as AppValue};
@@ -9,10 +9,10 @@ ghost use Rattle.em_base.specs.Apps.{IsApp};
 ghost use Rattle.em_base.specs.Events.{AreEarly, IsScript};
 ghost use Rattle.em_base.specs.Images.{IsWhole};
 ghost use Rattle.em_base.specs.Tables.{IsTable};
+ghost use Rattle.em_admit.specs.Depth.{AreShallow};
 ghost use Rattle.em_trace.specs.ScheduleFaults.{IsScheduleFail};
 ghost use Rattle.em_trace.specs.Schedules.{IsSchedule};
-ghost use Rattle.em_bundle.specs.Application as spec;
-ghost use Rattle.em_bundle.specs.Application.{IsApplicationFor, IsApplicationOf, IsBundleFail};
+ghost use Rattle.em_bundle.specs.Application.{HasDeepBuffer, IsApplicationFor, IsApplicationOf, IsBundleFail};
 ghost use Rattle.em_bundle.specs.Application.{IsBundleRefusedFor, IsCoded, IsImageFail, IsPartsFail};
 ghost use Rattle.em_bundle.specs.Application.{IsScheduled, IsTableFail, IsTabled};
 ghost use Rattle.em_bundle.specs.Code.{AreUnhinted};
@@ -34,38 +34,27 @@ use std::str;
 /// The most values that the buffer of a message may have to keep.
 const MOST_VALUES: u128 = 64;
 
-/// The table of a bundle, which has no messages.
+/// The table of a bundle, in which no buffer of a message is too deep.
 fn load_table(alloc: Global, parts: &Parts<'_>) -> Result<Table, Fail>
     requires { length (lines parts.now.table.now) < 2 ^ 31 }
     ensures table { IfOk result (IsTabled (part_lines parts.now)) }
     ensures valid { IfOk result IsTable }
-    ensures empty { IfOk result (λ table. table.messages ≡ []) }
+    ensures shallow { IfOk result AreShallow }
     ensures refused { IfErr result (IsTableFail (part_lines parts.now)) }
 {
     let text = with_line_feeds(alloc, parts.table)?;
     let table = read_table(alloc, text.as_str())?;
-    if !table.messages.as_slice().is_empty() {
-        return Err(Fail::Refused(message_fault(&table).at(1)));
+    if is_too_deep(&table) {
+        return Err(Fail::Refused(Fault::TooDeep.at(1)));
     }
     Ok(table)
-}
-
-/// What is wrong with a table that has messages: a buffer is too deep, or else that messages aren't supported yet.
-fn message_fault(table: &Table) -> Fault
-    requires { IsTable table.now }
-    ensures { result ≡ spec.message_fault table.now }
-{
-    if is_too_deep(table) {
-        Fault::TooDeep
-    } else {
-        Fault::NotSupported
-    }
 }
 
 /// Whether the buffer of a message would have to keep more than 64 values.
 fn is_too_deep(table: &Table) -> bool
     requires { IsTable table.now }
-    ensures { result ≡ spec.is_too_deep table.now }
+    ensures deep { result ≡ true → HasDeepBuffer table.now }
+    ensures shallow { result ≡ false → AreShallow table.now }
 {
     for m in 0..table.messages.as_slice().len() {
         if depth(table, MsgId(m as u8)) > MOST_VALUES {
@@ -183,7 +172,7 @@ fn load_bytes(alloc: Global, bytes: &[u8], replay: bool) -> Result<App, Fail>
 /// * 43: the bytes are no UTF-8;
 /// * 40, 41: the first line is no header line (40), a header line isn't the next one due (41), headers are due at the end (40);
 /// * 20 to 27: the table is refused, as [`read_table`] refuses it; then 28 where the buffer of a message would have to keep more
-///   than 64 values, and 60 where it has messages at all, which aren't supported yet;
+///   than 64 values;
 /// * 1 to 10: the code is refused, as [`em_asm_read::read_line`] and [`em_asm::assemble_numbered`] refuse it;
 /// * 42: the entry of a task is no label of the code;
 /// * 60: a `waitjob` has a semaphore beside it, which isn't supported yet;

@@ -1,12 +1,12 @@
 -- An application has no more events than the periods of its tasks and its script may give.
-use Rattle.std.proofs.Common.{◌≡◌, ◌≢◌, ◌∙◌, ℕ, zero, suc, ◌+◌, ◌<◌, ◌≤◌, ◌==◌, ◌⊎◌, inl, inr, Bool, true, false, if◌then◌else◌, List, [], ◌∷◌, ◌++◌, length, sum_by, sym, ap, refl, arith, length-append}
+use Rattle.std.proofs.Common.{◌≡◌, ◌≢◌, ℕ, zero, suc, ◌+◌, ◌<◌, ◌≤◌, ◌⊎◌, inl, inr, if◌then◌else◌, List, [], ◌∷◌, ◌++◌, length, sum_by, ap, refl, arith, length-append}
 use Rattle.std.specs.List.{flat_map, range_with_len}
 use Rattle.std.proofs.lemmas.Bool.{cases_eq, eq-eqb, ne_eqb}
 use Rattle.em_base.specs.declared.apps.App.{App}
 use Rattle.em_base.specs.declared.events.Timed.{Timed}
 use Rattle.em_base.specs.Apps.{IsApp}
 use Rattle.em_base.specs.Tables.{releases_of}
-use Rattle.em_gate.specs.Events.{at_time, events_of, in_order, timer_releases}
+use Rattle.em_gate.specs.Events.{at_time, events_of, timer_releases}
 use Rattle.em_kernel.proofs.TimerReleases.{rows-few}
 
 -- how many events there are at so many times from a on

@@ -1,8 +1,15 @@
 pub mod EventsByTime
 pub mod TimerReleases
+pub mod TaskCounts
 pub mod Steps
 pub mod Kernels
 pub mod Settling
+pub mod Carrying
+pub mod Buffered
+pub mod Copying
+pub mod Moved
+pub mod Transfers
+pub mod Passing
 pub mod NextStep
 pub mod Booted
 pub mod Shown

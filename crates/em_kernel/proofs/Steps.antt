@@ -1,16 +1,17 @@
 -- What a kernel stands for after a step, by the case of the step.
-use Rattle.std.proofs.Common.{◌≡◌, ◌∙◌, ℕ, ◌+◌, List, [], ◌∷◌, ◌++◌, length, Bool, Option, None, Some, sym, ap, subst, refl, append-nil, length-append}
+use Rattle.std.proofs.Common.{◌≡◌, ◌∙◌, ℕ, ◌+◌, List, [], ◌∷◌, ◌++◌, length, map, Bool, Option, None, Some, sym, ap, subst, refl, append-nil, length-append}
 use Rattle.em_base.specs.declared.apps.App.{App}
 use Rattle.em_base.specs.declared.events.Event.{Event}
 use Rattle.em_base.specs.declared.events.Timed.{Timed}
 use Rattle.em_base.specs.declared.ids.TaskId.{TaskId}
 use Rattle.em_ports.specs.Ports.{Places}
 use Rattle.em_base.specs.declared.events.Event.TheVariants.{Release, Unplug}
-use Rattle.em_gate.specs.State.{Counted, Plain}
+use Rattle.em_gate.specs.State.{Copy, Counted, Plain}
+use Rattle.em_state.specs.Buffers.{Kept as Buffer}
 use Rattle.em_gate.specs.Selecting.{counted_selected}
 use Rattle.em_kernel.specs.declared.did.Did.{Did}
 use Rattle.em_kernel.specs.declared.did.End.TheVariants.{Quiet}
-use Rattle.em_kernel.specs.Kept.{Kept, Stands}
+use Rattle.em_kernel.specs.Kept.{Keep, Kept, Stands}
 use Rattle.em_base.specs.Selection.{selected}
 use Rattle.em_trace.specs.declared.lines.Line.{Line}
 use Rattle.em_gate.specs.Effects.{option_list}
@@ -21,7 +22,7 @@ use Rattle.em_kernel.specs.declared.did.What.{What}
 use Rattle.em_kernel.specs.declared.meter.Meter.{Meter}
 use Rattle.em_system.specs.Held.{Held, Holds}
 use Rattle.em_system.specs.Held.{promises_of, tasks_of}
-use Rattle.em_kernel.specs.Metered.{metered, with_one, with_switch}
+use Rattle.em_kernel.specs.Metered.{did_of, metered, with_one, with_switch}
 use Rattle.em_system.specs.Standings.{number_of}
 use Rattle.em_kernel.specs.Step.{ended, idled, waited, settled, total_cost, is_switch, current_after}
 
@@ -43,11 +44,13 @@ idles kept places c event rest did e s d =
         owners = s.owners;
         shared = s.shared;
         ports = s.ports;
+        copies = s.copies;
+        begun = s.begun;
+        values = s.values;
         left = s.left;
         clock = refl;
         current = s.current;
         lines = s.lines;
-        values = s.values;
         running = s.running;
       },
       d,
@@ -68,17 +71,26 @@ pub lines_counted : (lines : List Line) (line : Option Line) → with_one (lengt
 lines_counted lines None = ap (λ xs. length xs) (sym (append-nil lines))
 lines_counted lines (Some line) = sym (length-append lines (line ∷ []))
 
--- what a step did
-abbrev pub did_of : What → Option Line → ℕ → ℕ → Bool → Did
-did_of what line cost clock switched = record { what = what; line = line; cost = cost; clock = clock; switched = switched }
+-- what a kernel keeps of messages
+pub record Mail : Type 0 where
+  pub buffers : List Buffer
+  pub copies : List (Option Copy)
+
+-- the messages and the copies of a state are those
+pub record Carries (mail : Mail) (c : Counted) : Type 0 where
+  pub values : Keep mail.buffers c.plain.values
+  pub begun : map (λ buffer. buffer.begun) mail.buffers ≡ c.begun
+  pub copies : mail.copies ≡ c.copies
 
 -- what a kernel keeps of these
-abbrev pub keeps : App → Held → List Timed → Meter → Kept
-keeps app held left meter = record {
+abbrev pub keeps : App → Held → Mail → List Timed → Meter → Kept
+keeps app held mail left meter = record {
   app = app;
   threads = held.threads;
   owners = held.owners;
   shared = held.shared;
+  buffers = mail.buffers;
+  copies = mail.copies;
   left = left;
   clock = meter.clock;
   current = meter.current;
@@ -94,13 +106,13 @@ tells app meter task what line cost =
     record { what = what; line = line; cost = total; clock = meter.clock + total; switched = switched }
 
 -- a step at a cost, once the selection is made again
-pub settles : (app : App) (held : Held) (places : Places) (c : Counted) (what : What) (line : Option Line) (cost : ℕ) (meter : Meter) (left : List Timed) (task : Option TaskId)
+pub settles : (app : App) (held : Held) (mail : Mail) (places : Places) (c : Counted) (what : What) (line : Option Line) (cost : ℕ) (meter : Meter) (left : List Timed) (task : Option TaskId)
     → Holds held c.plain c.promises → places ≡ c.plain.ports → left ≡ c.left → meter.clock ≡ c.clock → meter.current ≡ c.current
-    → with_one meter.count line ≡ length c.plain.lines → c.plain.values ≡ []
+    → with_one meter.count line ≡ length c.plain.lines → Carries mail c
     → number_of task ≡ selected (scene_in app.table.tasks (tasks_of held.threads) (promises_of held.threads) held.owners)
-    → Stands (keeps app held left (metered meter task line cost (charges_of app.table).switch)) places (settled app c what line cost).state
+    → Stands (keeps app held mail left (metered meter task line cost (charges_of app.table).switch)) places (settled app c what line cost).state
     × (tells app meter task what line cost ≡ (settled app c what line cost).did)
-settles app held places c what line cost meter left task s p l clock current lines values found =
+settles app held mail places c what line cost meter left task s p l clock current lines mailed found =
     let same : number_of task ≡ counted_selected app.table.tasks c = found ∙ selects_same app held c s in
     let sw = (charges_of app.table).switch in
     let switch : is_switch meter.current (number_of task) ≡ is_switch c.current (counted_selected app.table.tasks c) =
@@ -114,11 +126,13 @@ settles app held places c what line cost meter left task s p l clock current lin
         owners = s.owners;
         shared = s.shared;
         ports = p;
+        copies = mailed.copies;
+        begun = mailed.begun;
+        values = mailed.values;
         left = l;
         clock = after;
         current = ap (λ t. current_after meter.current t) same ∙ ap (λ u. current_after u (counted_selected app.table.tasks c)) current;
         lines = lines;
-        values = values;
         running = λ t e. ap (λ o. current_after c.current o) e;
       },
       ap (λ n. did_of what line n (meter.clock + with_switch (is_switch meter.current (number_of task)) cost sw) (is_switch meter.current (number_of task))) total
@@ -127,32 +141,32 @@ settles app held places c what line cost meter left task s p l clock current lin
     )
 
 -- the same, where the kernel has these by equal ways
-pub settles_by : (app app' : App) (held : Held) (places : Places) (c : Counted) (what : What) (line line' : Option Line) (cost cost' sw : ℕ) (meter meter' : Meter)
+pub settles_by : (app app' : App) (held : Held) (mail : Mail) (places : Places) (c : Counted) (what : What) (line line' : Option Line) (cost cost' sw : ℕ) (meter meter' : Meter)
     (left : List Timed) (task : Option TaskId) (total : ℕ) (switched : Bool)
     → app' ≡ app → line ≡ line' → cost ≡ cost' → sw ≡ (charges_of app.table).switch → meter' ≡ metered meter task line cost sw
     → switched ≡ is_switch meter.current (number_of task) → total ≡ with_switch switched cost sw
     → Holds held c.plain c.promises → places ≡ c.plain.ports → left ≡ c.left → meter.clock ≡ c.clock → meter.current ≡ c.current
-    → with_one meter.count line ≡ length c.plain.lines → c.plain.values ≡ []
+    → with_one meter.count line ≡ length c.plain.lines → Carries mail c
     → number_of task ≡ selected (scene_in app.table.tasks (tasks_of held.threads) (promises_of held.threads) held.owners)
-    → Stands (keeps app' held left meter') places (settled app c what line' cost').state
+    → Stands (keeps app' held mail left meter') places (settled app c what line' cost').state
     × (did_of what line total meter'.clock switched ≡ (settled app c what line' cost').did)
-settles_by app app' held places c what line line' cost cost' sw meter meter' left task total switched ea el ec es em eb et s p l clock current lines values found =
+settles_by app app' held mail places c what line line' cost cost' sw meter meter' left task total switched ea el ec es em eb et s p l clock current lines mailed found =
     let m : Meter = metered meter task line cost sw in
     let same_switch : with_switch (is_switch meter.current (number_of task)) cost sw ≡ with_switch (is_switch meter.current (number_of task)) cost (charges_of app.table).switch =
     ap (λ w. with_switch (is_switch meter.current (number_of task)) cost w) es in
-    let did = settles app held places c what line cost meter left task s p l clock current lines values found in
-    let stands = subst (λ w. Stands (keeps app held left (metered meter task line cost w)) places (settled app c what line cost).state) (sym es) did.0 in
-    let kept = subst (λ n. Stands (keeps app held left n) places (settled app c what line cost).state) (sym em) stands in
-    let here = subst (λ a. Stands (keeps a held left meter') places (settled app c what line cost).state) (sym ea) kept in
+    let did = settles app held mail places c what line cost meter left task s p l clock current lines mailed found in
+    let stands = subst (λ w. Stands (keeps app held mail left (metered meter task line cost w)) places (settled app c what line cost).state) (sym es) did.0 in
+    let kept = subst (λ n. Stands (keeps app held mail left n) places (settled app c what line cost).state) (sym em) stands in
+    let here = subst (λ a. Stands (keeps a held mail left meter') places (settled app c what line cost).state) (sym ea) kept in
     let tell : did_of what line total meter'.clock switched ≡ (settled app c what line cost).did =
     ap (λ b. did_of what line total meter'.clock b) eb
     ∙ ap (λ n. did_of what line n meter'.clock (is_switch meter.current (number_of task))) (et ∙ ap (λ b. with_switch b cost sw) eb ∙ same_switch)
     ∙ ap (λ n. did_of what line (with_switch (is_switch meter.current (number_of task)) cost (charges_of app.table).switch) n (is_switch meter.current (number_of task)))
     (ap (λ n. n.clock) em ∙ ap (λ n. meter.clock + n) same_switch)
     ∙ did.1 in
-    let by_line = subst (λ o. Stands (keeps app' held left meter') places (settled app c what o cost).state × (did_of what line total meter'.clock switched ≡ (settled app c what o cost).did))
+    let by_line = subst (λ o. Stands (keeps app' held mail left meter') places (settled app c what o cost).state × (did_of what line total meter'.clock switched ≡ (settled app c what o cost).did))
     el (here, tell) in
-    subst (λ n. Stands (keeps app' held left meter') places (settled app c what line' n).state × (did_of what line total meter'.clock switched ≡ (settled app c what line' n).did)) ec by_line
+    subst (λ n. Stands (keeps app' held mail left meter') places (settled app c what line' n).state × (did_of what line total meter'.clock switched ≡ (settled app c what line' n).did)) ec by_line
 
 -- an event publishes no value
 pub values_of_event : (event : Event) (p : Plain) → p.values ≡ (after_event event p).values

@@ -1,6 +1,9 @@
+pub mod Moves
 pub mod Step
 pub mod Run
 pub mod Kept
 pub mod Metered
 pub mod Kernels
 pub mod Shown
+pub mod Copyings
+pub mod Buffers

@@ -2,6 +2,8 @@
 use Rattle.std.specs.Prelude.{ℕ, ◌+◌, Bool, Option, None, Some, if◌then◌else◌}
 use Rattle.em_base.specs.declared.ids.TaskId.{TaskId}
 use Rattle.em_trace.specs.declared.lines.Line.{Line}
+use Rattle.em_kernel.specs.declared.did.Did.{Did}
+use Rattle.em_kernel.specs.declared.did.What.{What}
 use Rattle.em_kernel.specs.declared.meter.Meter.{Meter}
 use Rattle.em_system.specs.Standings.{number_of}
 use Rattle.em_kernel.specs.Step.{is_switch, current_after}
@@ -25,6 +27,20 @@ metered meter selected line cost switch = record {
   switches = if is_switch meter.current (number_of selected) then meter.switches + 1 else meter.switches;
 }
 
+-- after a step at a cost that changes no selection
+abbrev pub passed : Meter → Option Line → ℕ → Meter
+passed meter line cost = record meter { clock = meter.clock + cost; count = with_one meter.count line }
+
 -- before anything has happened
 abbrev pub metered_boot : Meter
 metered_boot = record { clock = 0; current = None; selected = None; count = 0; switches = 0 }
+
+-- what a step did
+abbrev pub did_of : What → Option Line → ℕ → ℕ → Bool → Did
+did_of what line cost clock switched = record { what = what; line = line; cost = cost; clock = clock; switched = switched }
+
+-- what is told of a step at a cost, once this task is selected
+abbrev pub told : Meter → Option TaskId → What → Option Line → ℕ → ℕ → Did
+told meter selected what line cost switch =
+    let switched = is_switch meter.current (number_of selected) in
+    did_of what line (with_switch switched cost switch) (meter.clock + with_switch switched cost switch) switched

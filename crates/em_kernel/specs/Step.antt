@@ -4,6 +4,7 @@ use Rattle.em_base.specs.declared.apps.App.{App}
 use Rattle.em_base.specs.declared.events.Event.{Event}
 use Rattle.em_base.specs.declared.events.Event.TheVariants.{Release, Unplug}
 use Rattle.em_base.specs.declared.events.Timed.{Timed}
+use Rattle.em_base.specs.declared.ids.MsgId.{MsgId}
 use Rattle.em_base.specs.declared.ids.TaskId.{TaskId}
 use Rattle.em_base.specs.declared.jobs.Charges.{Charges}
 use Rattle.em_base.specs.Selection.{is_task}
@@ -12,20 +13,19 @@ use Rattle.em_hart.specs.declared.answers.Class.TheVariants.{Plain as Registers,
 use Rattle.em_hart.specs.declared.answers.Stepped.{Stepped as Taken}
 use Rattle.em_hart.specs.declared.answers.Stepped.TheVariants.{Ran as RanStep, Call as CallStep, Fault as FaultStep}
 use Rattle.em_trace.specs.declared.lines.Line.{Line}
-use Rattle.em_gate.specs.State.{Counted, most_lines, task_at}
-use Rattle.em_gate.specs.Outcome.{Outcome, outcome}
-use Rattle.em_gate.specs.Effects.{after_outcome, line_by}
+use Rattle.em_gate.specs.State.{Counted, most_lines}
 use Rattle.em_gate.specs.Events.{after_event, event_line}
 use Rattle.em_gate.specs.Selecting.{counted_selected}
 use Rattle.em_demand.specs.Charges.{charges_of}
 use Rattle.em_kernel.specs.declared.did.Did.{Did}
 use Rattle.em_kernel.specs.declared.did.End.{End}
-use Rattle.em_kernel.specs.declared.did.End.TheVariants.{Horizon, Quiet, Lines}
+use Rattle.em_kernel.specs.declared.did.End.TheVariants.{Horizon, Quiet, Lines, Lapped}
 use Rattle.em_kernel.specs.declared.did.StepKind.{StepKind}
-use Rattle.em_kernel.specs.declared.did.StepKind.TheVariants.{Instr, Call, Fault}
+use Rattle.em_kernel.specs.declared.did.StepKind.TheVariants.{Instr, Call, BeginWrite, BeginRead, Copy, Publish, Fault}
 use Rattle.em_kernel.specs.declared.did.What.{What}
 use Rattle.em_kernel.specs.declared.did.What.TheVariants.{Delivered, Stepped, Idled, Ended}
-use Rattle.em_system.specs.Promises.{promises_after, promises_after_event}
+use Rattle.em_kernel.specs.Moves.{Move, Acts, StartsWrite, TakesWord, EndsWrite, StartsRead, PutsWord, EndsRead, Lapses, after_move, begun_at, move_line, move_of}
+use Rattle.em_system.specs.Promises.{promises_after_event}
 use Rattle.em_system.specs.Taken.{stepped_of}
 
 -- a step: the state after it, and what it did
@@ -45,23 +45,43 @@ abbrev pub class_charge : Class → ℕ
 class_charge Registers = 1
 class_charge Memory = 2
 
--- what a step of a task costs: an instruction by its class, a call or a fault as a call
+-- what a copied word costs
+abbrev pub word_charge : ℕ
+word_charge = 2
+
+-- what a step costs that begins no copy: an instruction by its class, a call or a fault as a call
 abbrev pub charge_by : Charges → Taken → ℕ
 charge_by charges (RanStep class) = class_charge class
 charge_by charges CallStep = charges.call
 charge_by charges (FaultStep cause) = charges.call
 
-abbrev pub step_charge : Charges → Outcome → ℕ
-step_charge charges o = charge_by charges (stepped_of o)
+-- what a step of a task costs: the beginning of a copy as a call
+abbrev pub step_charge : Charges → Move → ℕ
+step_charge charges (Acts o) = charge_by charges (stepped_of o)
+step_charge charges (StartsWrite m at) = charges.call
+step_charge charges (StartsRead m at) = charges.call
+step_charge charges (TakesWord m at i) = word_charge
+step_charge charges (EndsWrite m at i) = word_charge
+step_charge charges (PutsWord m at noted i) = word_charge
+step_charge charges (EndsRead m at noted i) = word_charge
+step_charge charges (Lapses m noted) = 0
 
--- what a step of a task was
+-- what a step was that begins no copy
 abbrev pub kind_by : Taken → StepKind
 kind_by (RanStep class) = Instr
 kind_by CallStep = Call
 kind_by (FaultStep cause) = Fault
 
-abbrev pub kind_of : Outcome → StepKind
-kind_of o = kind_by (stepped_of o)
+-- what a step of a task was
+abbrev pub kind_of : Move → StepKind
+kind_of (Acts o) = kind_by (stepped_of o)
+kind_of (StartsWrite m at) = BeginWrite
+kind_of (StartsRead m at) = BeginRead
+kind_of (TakesWord m at i) = Copy
+kind_of (EndsWrite m at i) = Publish
+kind_of (PutsWord m at noted i) = Copy
+kind_of (EndsRead m at noted i) = Copy
+kind_of (Lapses m noted) = Copy
 
 -- ---- the switch
 
@@ -116,19 +136,22 @@ delivered app c event rest =
     })
     (Delivered event) (event_line event c.plain) (event_charge (charges_of app.table) event)
 
--- the task t takes a step that comes to an outcome
-abbrev pub stepped : App → Counted → TaskId → Outcome → Step
-stepped app c t o =
-    settled app
-    (record c {
-      plain = after_outcome o t c.plain;
-      promises = promises_after app o t.0 c.plain c.promises;
-    })
-    (Stepped t (kind_of o)) (line_by o t (task_at c.plain.tasks t.0) c.plain) (step_charge (charges_of app.table) o)
-
 -- the task t takes a step
+abbrev pub stepped : App → Counted → TaskId → Move → Step
+stepped app c t move =
+    settled app (after_move app move t c) (Stepped t (kind_of move)) (move_line app move t c.plain) (step_charge (charges_of app.table) move)
+
+-- the end of a run where a read of this message that noted this number is due and has lapsed
+abbrev pub lapsed : Counted → MsgId → ℕ → End
+lapsed c m noted = Lapped m noted (begun_at c.begun m.0)
+
+-- by what the step is: one that has lapsed ends the run, and the clock stays
+abbrev pub stepped_by : App → Counted → TaskId → Move → Step
+stepped_by app c t (Lapses m noted) = ended c (lapsed c m noted)
+stepped_by app c t move = stepped app c t move
+
 abbrev pub ran : App → Counted → TaskId → Step
-ran app c t = stepped app c t (outcome app.table app.image.words t.0 c.plain)
+ran app c t = stepped_by app c t (move_of app c t.0)
 
 -- the clock goes on to the next event
 abbrev pub idled : Counted → ℕ → Step

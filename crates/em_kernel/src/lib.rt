@@ -2,6 +2,7 @@
 #![tactic(auto)]
 
 mod boot;
+mod copies;
 mod did;
 mod events;
 mod kernel;

@@ -78,4 +78,17 @@ impl Meter {
         }
         (total, switched)
     }
+
+    /// After a step at a cost that changes no selection, with the line that it gives.
+    pub(crate) fn pass(&mut self, line: &Option<Line>, cost: u64)
+        requires clock { self.old.clock < 2 ^ 32 }
+        requires count { self.old.count < 2 ^ 32 }
+        requires cost { cost < 2 ^ 32 }
+        ensures { self.new ≡ spec.passed self.old line.now cost }
+    {
+        self.clock += cost;
+        if line.is_some() {
+            self.count += 1;
+        }
+    }
 }

@@ -1,5 +1,6 @@
 //! The first steps of a kernel.
 ghost use Rattle.std.specs.Prelude.{◌≡◌, ◌<◌, [], length};
+ghost use Rattle.em_admit.specs.Depth.{AreShallow};
 ghost use Rattle.em_base.specs.Apps.{IsApp};
 
 use em_base::{App, Event, Key, NoMemory, Status, Steps, TaskId};
@@ -44,7 +45,7 @@ struct Start {
 /// The first two steps of the kernel of an application.
 fn start_of<L: Ledger>(alloc: Global, app: &App, blank: Blank) -> Result<Start, NoMemory>
     requires app { IsApp app.now }
-    requires messages { app.now.table.messages ≡ [] }
+    requires shallow { AreShallow app.now.table }
     requires hints { app.now.hints.hints ≡ [] }
     requires ledger { (blank.name ≡ L.name) × (blank.parts ≡ L.parts) }
     requires some { 0 < blank.parts }

@@ -4,3 +4,7 @@ pub mod Advance
 pub mod Follow
 pub mod Within
 pub mod Parts
+pub mod Splices
+pub mod Boarding
+pub mod Transfers
+pub mod Messages

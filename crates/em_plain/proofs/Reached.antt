@@ -3,6 +3,7 @@ use Rattle.std.specs.Bool.{⊤}
 use Rattle.std.proofs.Common.{◌≡◌, ◌∙◌, ◌++◌, false, List, Option, None, Result, Ok, Err, IsErr, IsErrAnd, append-nil, sym, ap, subst, refl}
 use Rattle.std.proofs.lemmas.Bool.{false≢true}
 use Rattle.em_base.specs.declared.events.Event.{Event}
+use Rattle.em_base.specs.declared.events.Event.TheVariants.{Release, Unplug}
 use Rattle.em_base.specs.declared.ids.TaskId.{TaskId}
 use Rattle.em_ports.specs.Ports.{Places}
 use Rattle.em_trace.specs.declared.lines.Line.{Line}
@@ -34,6 +35,11 @@ lines_of_step Leaves t p = refl
 -- and so does that of an event
 pub lines_of_event : (event : Event) (p : Plain) → p.lines ++ option_list (event_line event p) ≡ (after_event event p).lines
 lines_of_event event p = refl
+
+-- an event publishes nothing
+pub event_values : (event : Event) (p : Plain) → (after_event event p).values ≡ p.values
+event_values (Release t time word) p = refl
+event_values (Unplug port) p = refl
 
 -- one line more
 pub line_more : (p : Plain) (lines lines' : List Line) (line line' : Option Line) → lines ≡ p.lines → line ≡ line' → lines' ≡ lines ++ option_list line

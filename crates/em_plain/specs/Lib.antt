@@ -1,3 +1,5 @@
 pub mod Runs
 pub mod Answers
 pub mod Reached
+pub mod Boards
+pub mod Words

@@ -13,12 +13,15 @@ use Rattle.em_system.specs.Held.{Held, Holds}
 use Rattle.em_system.specs.Standings.{number_of}
 use Rattle.em_plain.specs.declared.machine.Halt.{Halt}
 use Rattle.em_plain.specs.declared.machine.Halt.TheVariants.{Full as FullHalt, Misfit as MisfitHalt, NoMemory}
+use Rattle.em_plain.specs.Boards.{AreBoards, Posted}
 use Rattle.em_plain.specs.Runs.{Went, On, Full, Misfit, is_full, state_of}
 
--- what the machine has: the tasks, the semaphores and the shared window, the selected task, the lines, and how many steps were taken
+-- what the machine has: the tasks, the semaphores and the shared window, the selected task, the boards of the messages, the
+-- lines, and how many steps were taken
 pub record Reached : Type 0 where
   pub held : Held
   pub selected : Option TaskId
+  pub boards : List Posted
   pub lines : List Line
   pub count : ℕ
 
@@ -27,6 +30,7 @@ pub record IsAt (at : Reached) (places : Places) (p : Plain) : Type 0 where
   pub promises : List (Option SemId)
   pub holds : Holds at.held p promises
   pub ports : places ≡ p.ports
+  pub boards : AreBoards at.boards p.values
   pub lines : at.lines ≡ p.lines
   pub selects : number_of at.selected ≡ plain_selected at.held.app.table.tasks p
 

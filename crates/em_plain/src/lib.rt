@@ -1,6 +1,8 @@
 //! The plain machine: it runs an application under a schedule, which says after how many steps each event comes, without a clock.
 #![tactic(auto)]
 
+mod answering;
+mod board;
 mod laws;
 mod machine;
 mod running;

@@ -13,10 +13,11 @@ ghost use Rattle.em_plain.specs.Reached.{HasGone, HasTaken, IsAt};
 ghost use Rattle.em_plain.specs.Runs as spec;
 ghost use Rattle.em_plain.specs.Runs.{Went};
 
+use crate::answering::carry_out;
+use crate::board::Boards;
 use em_base::{App, Event, Items, NoMemory, TaskId};
-use em_hart::Stepped;
 use em_ports::{Ports, Seen};
-use em_system::{System, put_line};
+use em_system::{System, Taken, put_line};
 use em_trace::Line;
 use std::alloc::Global;
 use std::marker::Model;
@@ -52,6 +53,7 @@ pub struct Machine<'a> {
     system: System<'a>,
     /// The selected task.
     selected: Option<TaskId>,
+    boards: Boards,
     lines: Items<Line>,
     /// How many steps were taken.
     count: u64,
@@ -61,6 +63,7 @@ impl<'a> Model for Machine<'a> {
     ghost use Rattle.std.specs.Prelude.{◌≡◌};
     ghost use Rattle.em_system.specs.Held.{selected_of};
     ghost use Rattle.em_system.specs.Standings.{number_of};
+    ghost use Rattle.em_plain.specs.Boards.{AreReady};
     ghost use Rattle.em_plain.specs.Reached.{Reached};
 
     ghost Value = { Reached };
@@ -68,18 +71,19 @@ impl<'a> Model for Machine<'a> {
     ghost view = { λ a. record {
       held = a.system;
       selected = a.selected;
+      boards = a.boards;
       lines = a.lines;
       count = a.count;
     } };
 
-    ghost invariant = { λ a. number_of a.selected ≡ selected_of a.system };
+    ghost invariant = { λ a. (number_of a.selected ≡ selected_of a.system)
+        × AreReady a.system.app.table a.count a.boards };
 }
 
 impl<'a> Machine<'a> {
     /// The machine of an application before anything has happened.
     pub fn boot(alloc: Global, app: &'a App) -> Result<Machine<'a>, NoMemory>
         requires app { IsApp app.now }
-        requires messages { app.now.table.messages ≡ [] }
         requires hints { app.now.hints.hints ≡ [] }
         ensures at { (places : Places)
             → IfOk result (λ machine. IsAt machine places (boot app.now places)) }
@@ -89,9 +93,11 @@ impl<'a> Machine<'a> {
     {
         let mut system = System::boot(alloc, app)?;
         let selected = system.select();
+        let boards = Boards::new(alloc, app)?;
         Ok(Machine {
             system,
             selected,
+            boards,
             lines: Items::new(alloc),
             count: 0,
         })
@@ -135,11 +141,11 @@ impl<'a> Machine<'a> {
         // Counted first, so that nothing is written between the step and the look at what it was: the line is loaded where there is
         // one alone.
         self.count += 1;
-        let (stepped, line) = self.system.step(t, ports);
-        match stepped {
+        match self.system.step(t, ports) {
             // After an instruction the same task is selected, and there is no line.
-            Stepped::Ran(_) => Ok(()),
-            Stepped::Call | Stepped::Fault(_) => {
+            Taken::Ran(_) => Ok(()),
+            taken => {
+                let line = carry_out(&mut self.system, &mut self.boards, t, taken);
                 self.selected = self.system.select();
                 put_line(alloc, &mut self.lines, &line)
             }

@@ -39,8 +39,7 @@ pub enum PlainFail {
     NoMemory,
 }
 
-/// Runs an application under a schedule for its tasks on the plain machine, for an application without messages and without
-/// hints: each event comes after as many steps as it says, and the run ends after as many as the schedule says last. `count` is
+/// Runs an application under a schedule for its tasks on the plain machine, for an application without hints: each event comes after as many steps as it says, and the run ends after as many as the schedule says last. `count` is
 /// how many steps were taken, and `full` says that the run ended before, since the trace had 1,000,000 lines.
 ///
 /// `Misfit` exactly where a step is asked and no task is selected, with the number of steps that were taken. `NoMemory` where
@@ -53,7 +52,6 @@ pub fn run(
     ports: &mut Ports,
 ) -> Result<PlainRun, PlainFail>
     requires app { IsApp app.now }
-    requires messages { app.now.table.messages ≡ [] }
     requires hints { app.now.hints.hints ≡ [] }
     requires schedule { IsSchedule (length app.now.table.tasks) schedule.now }
     ensures run { let seen = ⟦<Ports as Seen>⟧.seen_as in

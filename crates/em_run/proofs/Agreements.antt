@@ -23,12 +23,13 @@ use Rattle.em_bundle.specs.Scheduled.{with_schedule}
 use Rattle.em_kernel.specs.Run.{run_steps}
 use Rattle.em_plain.specs.Runs.{Went, On, Full, Misfit, and_then, events, is_full, plain_run, state_of, steps}
 use Rattle.em_sched.specs.Image.{schedule_of}
+use Rattle.em_sched.specs.Reads.{AreReadsWhole}
 use Rattle.em_sched.specs.Traces.{AreFirstOf, Gives, IsRising, lines_in}
 use Rattle.em_run.specs.declared.commands.Command.{Command}
 use Rattle.em_run.specs.declared.commands.Command.TheVariants.{Run, Trial, Replay, List as ListCode, Bench}
 use Rattle.em_run.specs.declared.status.Status.{Status}
 use Rattle.em_run.specs.declared.status.Status.TheVariants.{Done, Lapped}
-use Rattle.em_run.specs.Agreed.{IsAgreed, IsReplayed, is_run}
+use Rattle.em_run.specs.Agreed.{HasWholeReads, IsAgreed, IsReplayed, is_run}
 use Rattle.em_run.specs.Commands.{IsCommand}
 use Rattle.em_run.specs.Output.{AreBytesOf, IsDue, IsOutputOf, IsReplay, IsRunOutput, Reading}
 use Rattle.em_run.specs.Runs.{end_word, replay_text}
@@ -38,15 +39,16 @@ pub record RunLaws : Type 0 where
   pub table : (replay : Bool) (bytes : List ℕ) (app : App) → IsApplicationFor replay bytes app → IsTable app.table
   pub script : (replay : Bool) (bytes : List ℕ) (app : App) → IsApplicationFor replay bytes app → IsScript app.table.tasks app.script
   pub words : (replay : Bool) (bytes : List ℕ) (app : App) → IsApplicationFor replay bytes app → All HasWords app.script
-  pub trace : (app : App) (ports : Places) → IsTable app.table → app.table.messages ≡ [] → app.hints.hints ≡ []
+  pub trace : (app : App) (ports : Places) → IsTable app.table → app.hints.hints ≡ []
       → Gives (plain_run app ports (schedule_of app ports)) (lines_in (run_steps app ports))
-  pub first : (app : App) (ports : Places) → IsTable app.table → app.table.messages ≡ [] → app.hints.hints ≡ []
+  pub first : (app : App) (ports : Places) → IsTable app.table → app.hints.hints ≡ []
       → AreFirstOf app (schedule_of app ports)
-  pub rises : (app : App) (ports : Places) → IsTable app.table → app.table.messages ≡ [] → app.hints.hints ≡ []
+  pub rises : (app : App) (ports : Places) → IsTable app.table → app.hints.hints ≡ []
       → let schedule = schedule_of app ports in IsRising 0 schedule.events schedule.last
-  pub valid : (app : App) (ports : Places) → IsTable app.table → app.table.messages ≡ [] → app.hints.hints ≡ []
+  pub valid : (app : App) (ports : Places) → IsTable app.table → app.hints.hints ≡ []
       → IsScript app.table.tasks app.script → All HasWords app.script
       → let schedule = schedule_of app ports in schedule.last ≤ most_steps → IsSchedule (length app.table.tasks) schedule
+  pub whole : (app : App) (ports : Places) → IsTable app.table → app.hints.hints ≡ [] → AreReadsWhole app ports
   pub replays : (bytes : List ℕ) (app : App) (schedule : Schedule) → IsApplication bytes app → IsSchedule (length app.table.tasks) schedule
       → IsApplicationFor true (with_schedule bytes schedule) (record app { schedule = Some schedule })
 
@@ -135,12 +137,11 @@ replayed : RunLaws → (bytes : List ℕ) (app : App) (before : Places) → IsAp
 replayed laws bytes app before stands few within =
     let schedule = schedule_of app before in
     let table = laws.table false bytes app stands in
-    let messages = stands.stands.without_messages in
     let hints = stands.stands.hints in
-    let valid = laws.valid app before table messages hints (laws.script false bytes app stands) (laws.words false bytes app stands) few in
+    let valid = laws.valid app before table hints (laws.script false bytes app stands) (laws.words false bytes app stands) few in
     let again = with app (Some schedule) in
     let same = sym (run_with app (Some schedule) before schedule) in
-    let gives = subst (λ went. Gives went (lines_in (run_steps app before))) same (laws.trace app before table messages hints) in
+    let gives = subst (λ went. Gives went (lines_in (run_steps app before))) same (laws.trace app before table hints) in
     let (ending, replays) = replay_of (plain_run again before schedule) (lines_in (run_steps app before)) gives in
     record {
       app = again;
@@ -156,7 +157,6 @@ agreed_run : RunLaws → (bytes : List ℕ) (app : App) (before : Places) (statu
     → IsRunOutput app before status text after → IsAgreed bytes before text
 agreed_run laws bytes app before status text after stands output =
     let table = laws.table false bytes app stands in
-    let messages = stands.stands.without_messages in
     let hints = stands.stands.hints in
     record {
       app = app;
@@ -167,9 +167,9 @@ agreed_run laws bytes app before status text after stands output =
       text_is = output.text_is;
       run = refl;
       counted = refl;
-      first = laws.first app before table messages hints;
-      rises = laws.rises app before table messages hints;
-      plain = laws.trace app before table messages hints;
+      first = laws.first app before table hints;
+      rises = laws.rises app before table hints;
+      plain = laws.trace app before table hints;
       replayed = replayed laws bytes app before stands;
     }
 
@@ -185,6 +185,20 @@ agreed laws Replay bytes before status text after h e = absurd (not_run e)
 agreed laws ListCode bytes before status text after h e = absurd (not_run e)
 agreed laws (Bench n) bytes before status text after h e = absurd (not_run e)
 
+whole_reads : RunLaws → (bytes : List ℕ) (app : App) (before : Places) (status : Status) (text : List ℕ) (after : Places) → IsApplication bytes app
+    → IsRunOutput app before status text after → HasWholeReads bytes before text
+whole_reads laws bytes app before status text after stands output =
+    record { app = app; stands = stands; text_is = output.text_is; reads = laws.whole app before (laws.table false bytes app stands) stands.stands.hints }
+
+-- the reads of a run or a trial are whole
+pub read_whole : RunLaws → (command : Command) (bytes : List ℕ) (before : Places) (status : Status) (text : List ℕ) (after : Places)
+    → IsOutputOf command bytes before status text after → is_run command ≡ true → HasWholeReads bytes before text
+read_whole laws Run bytes before status text after h e = whole_reads laws bytes h.app before status text after h.stands h.output
+read_whole laws Trial bytes before status text after h e = whole_reads laws bytes h.app before status text after h.stands h.output
+read_whole laws Replay bytes before status text after h e = absurd (not_run e)
+read_whole laws ListCode bytes before status text after h e = absurd (not_run e)
+read_whole laws (Bench n) bytes before status text after h e = absurd (not_run e)
+
 -- what is written where the status is Done or Lapped
 pub record Written (words : List (List ℕ)) (read : Reading) (before : Places) (text : List ℕ) : Type 0 where
   pub command : Command
@@ -192,6 +206,7 @@ pub record Written (words : List (List ℕ)) (read : Reading) (before : Places) 
   pub words_are : IsCommand words command
   pub read_are : AreBytesOf command read bytes
   pub agrees : is_run command ≡ true → IsAgreed bytes before text
+  pub reads : is_run command ≡ true → HasWholeReads bytes before text
 
 pub written : RunLaws → (words : List (List ℕ)) (read : Reading) (before : Places) (status : Status) (text : List ℕ) (after : Places)
     → (status ≡ Done) ⊎ (status ≡ Lapped) → IsDue words read before status text after → Written words read before text
@@ -203,6 +218,7 @@ written laws words read before status text after (inl e) due =
       words_are = found.words_are;
       read_are = found.due.read;
       agrees = agreed laws found.command found.due.bytes before Done text after found.due.due;
+      reads = read_whole laws found.command found.due.bytes before Done text after found.due.due;
     }
 written laws words read before status text after (inr e) due =
     let found = subst (λ s. IsDue words read before s text after) e due in
@@ -212,4 +228,5 @@ written laws words read before status text after (inr e) due =
       words_are = found.words_are;
       read_are = found.due.read;
       agrees = agreed laws found.command found.due.bytes before Lapped text after found.due.due;
+      reads = read_whole laws found.command found.due.bytes before Lapped text after found.due.due;
     }

@@ -4,6 +4,7 @@ use Rattle.std.proofs.lemmas.Grind.{flat_map-append}
 use Rattle.std.proofs.lemmas.List.Sums.{sum_by-append}
 use Rattle.em_base.specs.declared.apps.App.{App}
 use Rattle.em_base.specs.declared.events.Timed.{Timed}
+use Rattle.em_base.specs.declared.ids.TaskId.{TaskId}
 use Rattle.em_ports.specs.Ports.{Places}
 use Rattle.em_trace.specs.declared.lines.Line.{Line}
 use Rattle.em_gate.specs.State.{Counted, most_lines}
@@ -16,7 +17,8 @@ use Rattle.em_kernel.specs.declared.did.What.{What}
 use Rattle.em_kernel.specs.declared.did.What.TheVariants.{Delivered, Stepped, Idled, Ended}
 use Rattle.em_kernel.specs.Kept.{Kept, Stands, kept_fuel}
 use Rattle.em_kernel.specs.Run.{counted_boot, fuel, is_end, run_end, run_steps, state_from, steps_from}
-use Rattle.em_kernel.specs.Step.{chosen, delivered, ended, next, step, waited}
+use Rattle.em_kernel.specs.Moves.{Acts, EndsRead, EndsWrite, Lapses, Move, PutsWord, StartsRead, StartsWrite, TakesWord, move_of}
+use Rattle.em_kernel.specs.Step.{chosen, delivered, ended, next, step, stepped_by, waited}
 use Rattle.em_sched.specs.Image.{Image, image_after, image_beside, image_boot, image_from, schedule_of, scheduled}
 use Rattle.em_sched.specs.Traces.{lines_in}
 use Rattle.em_run.specs.Runs.{cause_in, cause_of, or_cause, switches_in}
@@ -31,8 +33,18 @@ same_clock app c = by_tests (nat_le app.table.horizon c.clock) (nat_le most_line
     of_waited [] = refl
     of_waited (event ∷ rest) = refl
 
+    of_move : (t : TaskId) (move : Move) → (stepped_by app c t move).did.clock ≡ (stepped_by app c t move).state.clock
+    of_move t (Acts o) = refl
+    of_move t (StartsWrite m at) = refl
+    of_move t (TakesWord m at done) = refl
+    of_move t (EndsWrite m at done) = refl
+    of_move t (StartsRead m at) = refl
+    of_move t (PutsWord m at noted done) = refl
+    of_move t (EndsRead m at noted done) = refl
+    of_move t (Lapses m noted) = refl
+
     of_chosen : (selected : Option ℕ) → (chosen app c selected).did.clock ≡ (chosen app c selected).state.clock
-    of_chosen (Some t) = refl
+    of_chosen (Some t) = of_move (record { 0 = t }) (move_of app c t)
     of_chosen None = of_waited c.left
 
     of_due : (event : Timed) (rest : List Timed) (due : Bool)

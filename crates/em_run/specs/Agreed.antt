@@ -1,4 +1,4 @@
--- That the trace of a run is the plain machine's, and that its schedule can be replayed: this project's own.
+-- That the trace of a run is the plain machine's, that its schedule can be replayed, and that its reads are whole: this project's own.
 use Rattle.std.specs.Prelude.{◌≡◌, ℕ, ◌≤◌, Bool, true, false, List, ◌++◌, length, codes}
 use Rattle.em_base.specs.declared.apps.App.{App}
 use Rattle.em_base.specs.declared.events.Schedule.{Schedule}
@@ -12,12 +12,13 @@ use Rattle.em_bundle.specs.Scheduled.{with_schedule}
 use Rattle.em_kernel.specs.Run.{run_steps}
 use Rattle.em_plain.specs.Runs.{plain_run}
 use Rattle.em_sched.specs.Image.{schedule_of}
+use Rattle.em_sched.specs.Reads.{AreReadsWhole}
 use Rattle.em_sched.specs.Traces.{AreFirstOf, Gives, IsRising, lines_in}
 use Rattle.em_run.specs.declared.commands.Command.{Command}
 use Rattle.em_run.specs.declared.commands.Command.TheVariants.{Run, Trial, Replay, List as ListCode, Bench}
 use Rattle.em_run.specs.declared.status.Status.TheVariants.{Done}
 use Rattle.em_run.specs.Output.{IsReplayOutput}
-use Rattle.em_run.specs.Runs.{parts_text}
+use Rattle.em_run.specs.Runs.{parts_text, run_text}
 
 -- the commands that run an application on the kernel and write its trace
 abbrev pub is_run : Command → Bool
@@ -52,3 +53,12 @@ pub record IsAgreed (bytes : List ℕ) (before : Places) (text : List ℕ) : Typ
   pub rises : IsRising 0 schedule.events schedule.last
   pub plain : Gives (plain_run app before schedule) lines
   pub replayed : schedule.last ≤ most_steps → length (with_schedule bytes schedule) ≤ input_limit → IsReplayed bytes schedule before lines
+
+-- the bytes stand for an application, the text is that of the application's run with these ports, and each read of this run that copied its
+-- last word is whole: it put the words of the value whose number stands in its line, the newest that was published when it began, into the own
+-- window of its task, and its task did nothing else meanwhile
+pub record HasWholeReads (bytes : List ℕ) (before : Places) (text : List ℕ) : Type 0 where
+  pub app : App
+  pub stands : IsApplicationFor false bytes app
+  pub text_is : text ≡ run_text app before
+  pub reads : AreReadsWhole app before

@@ -1,5 +1,6 @@
 //! What is due: the status and the text, by the words, by what is read and by the ports that are handed in.
 ghost use Rattle.std.specs.Prelude.{◌≡◌, ◌≤◌, ℕ, [], codes, length, map, string_bytes, true};
+ghost use Rattle.em_admit.specs.Depth.{AreShallow};
 ghost use Rattle.em_base.specs.Apps.{IsApp};
 ghost use Rattle.em_io.specs.Bytes.{input_limit};
 ghost use Rattle.em_run.specs.Commands.{IsCommand, IsNoCommand};
@@ -153,7 +154,7 @@ fn answer_to(alloc: Global, command: Command, bytes: &[u8], ports: &mut Ports) -
 /// What is due for a command and an application.
 fn app_answer(alloc: Global, command: Command, app: &App, ports: &mut Ports) -> Answer
     requires app { IsApp app.now }
-    requires messages { app.now.table.messages ≡ [] }
+    requires shallow { AreShallow app.now.table }
     requires hints { app.now.hints.hints ≡ [] }
     requires schedule { is_replay command ≡ true → HasSchedule app.now }
     ensures { let seen = ⟦<Ports as Seen>⟧.seen_as in

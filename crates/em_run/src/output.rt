@@ -1,6 +1,7 @@
 //! What a command writes of an application, and how it ends: the parts of a run, or the listing of the code.
 ghost use Rattle.std.specs.Prelude.{◌≡◌, ◌⊎◌, ◌++◌, [], codes, length, true, IfOk, OnOk, Some};
 ghost use Rattle.std.specs.Prelude.{string_bytes};
+ghost use Rattle.em_admit.specs.Depth.{AreShallow};
 ghost use Rattle.em_base.specs.Apps.{IsApp};
 ghost use Rattle.em_show.specs.Listing.{IsListing};
 ghost use Rattle.em_trace.specs.Printed.{trace_text};
@@ -42,7 +43,7 @@ pub fn output_of(
     ports: &mut Ports,
 ) -> Result<Output, NoMemory>
     requires app { IsApp app.now }
-    requires messages { app.now.table.messages ≡ [] }
+    requires shallow { AreShallow app.now.table }
     requires hints { app.now.hints.hints ≡ [] }
     requires schedule { is_replay command ≡ true → HasSchedule app.now }
     ensures output { let seen = ⟦<Ports as Seen>⟧.seen_as in
@@ -76,7 +77,7 @@ fn list_output(alloc: Global, app: &App) -> Result<Output, NoMemory>
 /// The output of a run.
 fn run_output(alloc: Global, app: &App, ports: &mut Ports) -> Result<Output, NoMemory>
     requires app { IsApp app.now }
-    requires messages { app.now.table.messages ≡ [] }
+    requires shallow { AreShallow app.now.table }
     requires hints { app.now.hints.hints ≡ [] }
     ensures output { let seen = ⟦<Ports as Seen>⟧.seen_as in
         let Is = IsRunOutput app.now (seen ports.old) in IfOk result (λ output.
@@ -94,7 +95,7 @@ fn run_output(alloc: Global, app: &App, ports: &mut Ports) -> Result<Output, NoM
 /// The output of a bench of a number: a line of what its workload comes to.
 fn bench_output(alloc: Global, n: u32, app: &App, ports: &mut Ports) -> Result<Output, NoMemory>
     requires app { IsApp app.now }
-    requires messages { app.now.table.messages ≡ [] }
+    requires shallow { AreShallow app.now.table }
     requires hints { app.now.hints.hints ≡ [] }
     ensures output { let seen = ⟦<Ports as Seen>⟧.seen_as in
         let Is = IsBenchOutput n app.now (seen ports.old) in IfOk result (λ output.
@@ -115,7 +116,6 @@ fn bench_output(alloc: Global, n: u32, app: &App, ports: &mut Ports) -> Result<O
 /// The output of a replay under the schedule that the application has.
 fn replay_output(alloc: Global, app: &App, ports: &mut Ports) -> Result<Output, NoMemory>
     requires app { IsApp app.now }
-    requires messages { app.now.table.messages ≡ [] }
     requires hints { app.now.hints.hints ≡ [] }
     requires schedule { HasSchedule app.now }
     ensures output { let seen = ⟦<Ports as Seen>⟧.seen_as in
@@ -138,7 +138,6 @@ fn replay_under(
     ports: &mut Ports,
 ) -> Result<Output, NoMemory>
     requires app { IsApp app.now }
-    requires messages { app.now.table.messages ≡ [] }
     requires hints { app.now.hints.hints ≡ [] }
     requires schedule { IsSchedule (length app.now.table.tasks) schedule.now }
     ensures output { let seen = ⟦<Ports as Seen>⟧.seen_as in

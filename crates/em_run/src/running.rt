@@ -1,5 +1,6 @@
 //! The run of an application on the kernel, from its boot to its end.
 ghost use Rattle.std.specs.Prelude.{◌≡◌, ◌<◌, ℕ, [], IfOk};
+ghost use Rattle.em_admit.specs.Depth.{AreShallow};
 ghost use Rattle.em_base.specs.Apps.{IsApp};
 ghost use Rattle.em_run.specs.Runs.{ArePartWay, IsRunOf, ports_after};
 
@@ -32,7 +33,7 @@ pub struct Run {
 /// out; the ports are then those after some number of steps.
 pub fn run_app(alloc: Global, app: &App, ports: &mut Ports) -> Result<Run, NoMemory>
     requires app { IsApp app.now }
-    requires messages { app.now.table.messages ≡ [] }
+    requires shallow { AreShallow app.now.table }
     requires hints { app.now.hints.hints ≡ [] }
     ensures run { let seen = ⟦<Ports as Seen>⟧.seen_as in
         IfOk result (IsRunOf app.now (seen ports.old)) }
@@ -52,7 +53,7 @@ fn run_counted<L: Ledger>(
     blank: Blank,
 ) -> Result<Run, NoMemory>
     requires app { IsApp app.now }
-    requires messages { app.now.table.messages ≡ [] }
+    requires shallow { AreShallow app.now.table }
     requires hints { app.now.hints.hints ≡ [] }
     requires ledger { (blank.name ≡ L.name) × (blank.parts ≡ L.parts) }
     requires some { 0 < blank.parts }

@@ -7,7 +7,7 @@ ghost use Rattle.em_base.specs.declared.refusals.Refusal.{Refusal};
 ghost use Rattle.em_io.specs.Bytes.{input_limit, Rose, Took};
 ghost use Rattle.em_bundle.specs.Application.{IsApplicationFor, IsBundleRefusedFor};
 ghost use Rattle.em_run.specs.declared.commands.Command.{Command};
-ghost use Rattle.em_run.specs.Agreed.{IsAgreed, is_run};
+ghost use Rattle.em_run.specs.Agreed.{HasWholeReads, IsAgreed, is_run};
 ghost use Rattle.em_run.specs.Commands.{IsCommand, IsNoCommand};
 ghost use Rattle.em_run.specs.Output.{AreBytesOf, AreGiven, AreLeft, IsDue, IsOutput, IsOutputOf};
 ghost use Rattle.em_run.specs.Output.{Wrote, is_reader, is_replay, reading, refusal_text};
@@ -18,7 +18,7 @@ use em_bundle::{one_application, replayable, sound_application};
 use em_io::{Sink, Source, write_all};
 use em_plain::whole_run;
 use em_ports::{Ports, Seen};
-use em_sched::{same_trace, valid_schedule};
+use em_sched::{same_trace, valid_schedule, whole_reads};
 use std::alloc::Global;
 
 /// All that the program does. `words` are the words after its name: the command `run`, `trial`, `replay` or `list`, or `bench`
@@ -117,6 +117,17 @@ pub fn emeralds<S: Source, K: Sink>(
         × Wrote (K.written out.old) (K.written out.new) text
         × (is_run command ≡ true → IsAgreed bytes (seen ports.old) text) }
 
+    // Each read of that run that copied its last word is whole: it put the words of the value whose number stands in its line
+    // `get`, the newest that was published when it began, into the own window of its task, and its task did nothing else
+    // meanwhile.
+    ensures reads { (result ≡ Status.Done) ⊎ (result ≡ Status.Lapped)
+        → let read = reading (S.left src.old) (S.left src.new) (S.faults src.old) (S.faults src.new) in
+        let seen = ⟦<Ports as Seen>⟧.seen_as in
+        (command : Command) × (bytes : List ℕ) × (text : List ℕ)
+        × IsCommand (map string_bytes words.now) command × AreBytesOf command read bytes
+        × Wrote (K.written out.old) (K.written out.new) text
+        × (is_run command ≡ true → HasWholeReads bytes (seen ports.old) text) }
+
     ensures usage { result ≡ Status.Usage → let seen = ⟦<Ports as Seen>⟧.seen_as in
         IsNoCommand (map string_bytes words.now)
         × (S.left src.new ≡ S.left src.old) × (seen ports.new ≡ seen ports.old)
@@ -178,6 +189,8 @@ pub fn emeralds<S: Source, K: Sink>(
     valid_schedule();
     sound_application();
     replayable();
+    // Each read of a run that ends is whole, on which `reads` rests.
+    whole_reads();
     let due = decide(alloc, words, src, ports);
     match write_all(out, due.text.as_bytes()) {
         Ok(()) => due.status,

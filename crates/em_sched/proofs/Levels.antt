@@ -1,36 +1,38 @@
--- Without hints and messages the image is the counted machine's own plain state, after each of its steps.
+-- Without hints the image is the settled state of the counted machine, after each of its steps.
 use Rattle.std.specs.Bool.{⊤}
-use Rattle.std.proofs.Common.{◌≡◌, ◌∙◌, ℕ, suc, ◌<◌, ◌≤◌, ◌||◌, ◌&&◌, Bool, true, false, if◌then◌else◌, IfSome, inl, inr, zero, List, [], ◌∷◌, length, slice_set, Option, None, Some, sym, ap, subst, refl, arith}
+use Rattle.std.proofs.Common.{◌≡◌, ◌∙◌, ℕ, zero, suc, ◌<◌, ◌||◌, ◌&&◌, Bool, true, false, if◌then◌else◌, IfSome, inl, inr, List, [], ◌∷◌, length, Option, Some, sym, ap, subst, refl}
 use Rattle.std.proofs.lemmas.Bool.{cases_lt}
-use Rattle.std.proofs.lemmas.List.{get_or_past, length-map, length-set}
+use Rattle.std.proofs.lemmas.List.{get_or_past}
 use Rattle.em_base.specs.declared.apps.App.{App}
 use Rattle.em_base.specs.declared.events.Event.{Event}
-use Rattle.em_base.specs.declared.events.Event.TheVariants.{Release, Unplug}
 use Rattle.em_base.specs.declared.ids.SemId.{SemId}
 use Rattle.em_base.specs.declared.ids.TaskId.{TaskId}
 use Rattle.em_base.specs.declared.jobs.Status.{Status}
 use Rattle.em_base.specs.declared.jobs.Status.TheVariants.{Asleep, Awake, Waits, Stopped}
 use Rattle.em_base.specs.declared.tables.TaskRow.{TaskRow}
-use Rattle.em_base.specs.Selection.{Scene, is_awake, selected, status_at}
-use Rattle.em_hart.specs.declared.answers.Stepped.{Stepped as Taken}
-use Rattle.em_hart.specs.declared.answers.Stepped.TheVariants.{Ran, Call as CallStep, Fault as FaultStep}
-use Rattle.em_gate.specs.Effects.{after_outcome, after_step, frees, gives, own_after, owners_after, without, woken}
+use Rattle.em_base.specs.Selection.{Scene, is_active, is_awake, selected, status_at}
 use Rattle.em_gate.specs.Events.{after_event}
-use Rattle.em_gate.specs.Outcome.{Outcome, Works, Falls, Refuses, Ends, Gets, Blocks, Frees, Puts, Publishes, Fetches, Signals, Leaves, outcome}
 use Rattle.em_gate.specs.Selecting.{counted_selected, plain_selected, scene_in, statuses_of}
 use Rattle.em_gate.specs.State.{Counted, Plain, Task, no_task, task_at}
-use Rattle.em_gate.specs.Tasks.{after_take}
 use Rattle.em_kernel.specs.declared.did.What.{What}
 use Rattle.em_kernel.specs.declared.did.What.TheVariants.{Delivered, Stepped, Idled, Ended}
-use Rattle.em_kernel.specs.Step.{kind_by, kind_of}
-use Rattle.em_system.specs.Taken.{stepped_of}
+use Rattle.em_kernel.specs.Moves.{move_of}
+use Rattle.em_kernel.specs.Step.{kind_of}
 use Rattle.em_system.proofs.Scenes.{selected_ready}
-use Rattle.em_sched.specs.Image.{Image, by_selected, image_after, is_ahead, is_copying, most_ahead, moved, one_step, put_down, stepped_on}
+use Rattle.em_sched.specs.Image.{Image, by_selected, image_after, is_copying, most_ahead, moved, one_step, put_down, stepped_on}
 use Rattle.em_sched.specs.Turns.{acted}
-use Rattle.em_sched.proofs.Bare.{Bare, bare_event, bare_selected, bare_step, none_ahead, none_to_catch}
-use Rattle.em_sched.proofs.Owned.{Owned}
-use Rattle.em_sched.proofs.OwnedSteps.{owned_event, owned_step}
-use Rattle.em_sched.proofs.Tells.{tells}
+use Rattle.em_sched.proofs.Bare.{Bare, bare_event, bare_selected, none_ahead, none_to_catch}
+use Rattle.em_sched.proofs.Commutes.{event_flat}
+use Rattle.em_sched.proofs.Copies.{copies_kept, copy_jobs}
+use Rattle.em_sched.proofs.CopyMoves.{move_moved}
+use Rattle.em_kernel.proofs.TaskCounts.{event_count}
+use Rattle.em_sched.proofs.Counts.{event_owners, event_values}
+use Rattle.em_sched.proofs.Flat.{flat, flat_of, settle_scene}
+use Rattle.em_sched.proofs.Keeping.{event_working, keeps_event, working_at}
+use Rattle.em_sched.proofs.Moves.{IsChosen, unless}
+use Rattle.em_sched.proofs.Orderly.{IsOrderly, IsSimple, orderly_same}
+use Rattle.em_sched.proofs.OwnedSteps.{owned_event}
+use Rattle.em_sched.proofs.Published.{AreValued, Grow, grow_same}
 
 -- ---- the selected task
 
@@ -68,170 +70,134 @@ awake_inside tasks t e = elim (cases_lt t (length tasks)) [
   | inr past ↦ absurd (asleep_awake (ap (λ (task : Task). task.status) (sym (get_or_past tasks t no_task past)) ∙ e))
 ]
 
--- ---- how many there are
+-- the task that the counted machine selects
+pub chosen_is : (app : App) (c : Counted) (t : ℕ) → IsOrderly app c → counted_selected app.table.tasks c ≡ Some t → IsChosen c t
+chosen_is app c t h e =
+    let awake = selected_awake app.table.tasks c.plain.tasks c.promises c.plain.owners t e in
+    record {
+      inside = awake_inside c.plain.tasks t awake;
+      awake = awake;
+      working = working_at c.plain.tasks t h.working (ap is_active awake);
+    }
 
-gift_count : (o : Outcome) (p : Plain) → length (gives o p).tasks ≡ length p.tasks
-unfolding gives
-gift_count (Works class core shared) p = refl
-gift_count (Falls cause) p = refl
-gift_count (Refuses code) p = refl
-gift_count Ends p = refl
-gift_count (Gets s) p = refl
-gift_count (Blocks s) p = refl
-gift_count (Frees s) p = refl
-gift_count (Puts port word) p = refl
-gift_count (Publishes m at count) p = refl
-gift_count (Fetches m at) p = refl
-gift_count (Signals u word) p = length-set p.tasks u (after_take 0 word (task_at p.tasks u))
-gift_count Leaves p = refl
+-- the plain machine selects the same in the settled state
+pub flat_selected : (app : App) (c : Counted) → Bare c.promises → plain_selected app.table.tasks (flat c) ≡ counted_selected app.table.tasks c
+flat_selected app c bare =
+    ap selected (settle_scene app.table.tasks c.plain.values c.plain.tasks c.copies [] c.plain.owners) ∙ sym (bare_selected app.table.tasks c bare)
 
-pub step_count : (o : Outcome) (t : TaskId) (p : Plain) → length (after_outcome o t p).tasks ≡ length p.tasks
-step_count o t p =
-    gift_count o _
-    ∙ length-map (slice_set p.tasks t.0 (own_after o p (task_at p.tasks t.0))) (woken (frees o t.0 p.owners))
-    ∙ length-set p.tasks t.0 (own_after o p (task_at p.tasks t.0))
+-- ---- what the counted machine does
 
-gift_owners : (o : Outcome) (p : Plain) → (gives o p).owners ≡ p.owners
-unfolding gives
-gift_owners (Works class core shared) p = refl
-gift_owners (Falls cause) p = refl
-gift_owners (Refuses code) p = refl
-gift_owners Ends p = refl
-gift_owners (Gets s) p = refl
-gift_owners (Blocks s) p = refl
-gift_owners (Frees s) p = refl
-gift_owners (Puts port word) p = refl
-gift_owners (Publishes m at count) p = refl
-gift_owners (Fetches m at) p = refl
-gift_owners (Signals u word) p = refl
-gift_owners Leaves p = refl
-
-many_owners : (o : Outcome) (t : ℕ) (owners : List (Option TaskId)) → length (owners_after o t owners) ≡ length owners
-unfolding owners_after
-many_owners (Works class core shared) t owners = refl
-many_owners (Falls cause) t owners = length-map owners (without t)
-many_owners (Refuses code) t owners = refl
-many_owners Ends t owners = refl
-many_owners (Gets s) t owners = length-set owners s (Some (record { 0 = t }))
-many_owners (Blocks s) t owners = refl
-many_owners (Frees s) t owners = length-set owners s None
-many_owners (Puts port word) t owners = refl
-many_owners (Publishes m at count) t owners = refl
-many_owners (Fetches m at) t owners = refl
-many_owners (Signals u word) t owners = refl
-many_owners Leaves t owners = refl
-
-pub step_owners : (o : Outcome) (t : TaskId) (p : Plain) → length (after_outcome o t p).owners ≡ length p.owners
-step_owners o t p = ap length (gift_owners o _) ∙ many_owners o t.0 p.owners
-
-pub event_count : (event : Event) (p : Plain) → length (after_event event p).tasks ≡ length p.tasks
-event_count (Release t time word) p = length-set p.tasks t.0 (after_take time word (task_at p.tasks t.0))
-event_count (Unplug port) p = refl
-
-pub event_owners : (event : Event) (p : Plain) → (after_event event p).owners ≡ p.owners
-event_owners (Release t time word) p = refl
-event_owners (Unplug port) p = refl
-
--- ---- level
-
--- a plain state with promises is level with an image: the image is the state itself, nothing is promised, and what owners keep is so
-pub record IsLevel (app : App) (p : Plain) (promises : List (Option SemId)) (image : Image) : Type 0 where
-  pub same : image.plain ≡ p
-  pub bare : Bare promises
-  pub owned : Owned p
-  pub tasks : length p.tasks ≡ length app.table.tasks
-  pub semaphores : length p.owners ≡ app.table.semaphores
-
--- what an application has here: no hints, and no more semaphores than a set of them holds
-pub record IsSimple (app : App) : Type 0 where
-  pub hints : app.hints.hints ≡ []
-  pub few : app.table.semaphores ≤ 32
-
--- what the counted machine did is what it can do in a state
+-- what it did is what it can do in a state
 abbrev pub Fits : App → Counted → What → Type 0
 Fits app c (Delivered event) = ⊤
-Fits app c (Stepped t kind) =
-    (counted_selected app.table.tasks c ≡ Some t.0) × (kind ≡ kind_of (outcome app.table app.image.words t.0 c.plain))
+Fits app c (Stepped t kind) = (counted_selected app.table.tasks c ≡ Some t.0) × (kind ≡ kind_of (move_of app c t.0))
 Fits app c Idled = ⊤
 Fits app c (Ended cause) = ⊤
 
--- what the image does beside it
+-- an event keeps what every step keeps
+event_orderly : (app : App) (c : Counted) (event : Event) → IsSimple app → IsOrderly app c → IsOrderly app (acted app c (Delivered event))
+event_orderly app c event simple h = record {
+  bare = bare;
+  owned = owned_event event c.plain h.owned;
+  working = event_working event c.plain h.working;
+  tasks = event_count event c.plain ∙ h.tasks;
+  semaphores = ap length (event_owners event c.plain) ∙ h.semaphores;
+  copies =
+      copies_kept app c (acted app c (Delivered event)) refl (event_count event c.plain) (event_values event c.plain) bare
+      (subst (Grow c.plain.values) (sym (event_values event c.plain)) (grow_same c.plain.values)) (keeps_event event c.plain) h.copies;
+  valued = subst AreValued (sym (event_values event c.plain)) h.valued;
+}
+  where
+    bare : Bare (acted app c (Delivered event)).promises
+    bare = bare_event app event c.plain c.promises simple.hints h.bare
+
+-- and so does each step
+pub orderly_after : (app : App) (c : Counted) (what : What) → IsSimple app → Fits app c what → IsOrderly app c → IsOrderly app (acted app c what)
+orderly_after app c (Delivered event) simple fits h = event_orderly app c event simple h
+orderly_after app c (Stepped t kind) simple (selects, is) h = (move_moved app c t simple h (chosen_is app c t.0 h selects)).orderly
+orderly_after app c Idled simple fits h = h
+orderly_after app c (Ended cause) simple fits h = h
+
+-- what becomes of a plain state beside it
+abbrev pub beside : App → What → Plain → Plain
+beside app (Delivered event) p = after_event event p
+beside app (Stepped t kind) p = unless (is_copying kind) app t p
+beside app Idled p = p
+beside app (Ended cause) p = p
+
+-- that of the settled state is the settled one of the state after it
+pub flat_after : (app : App) (c : Counted) (what : What) → IsSimple app → Fits app c what → IsOrderly app c
+    → flat (acted app c what) ≡ beside app what (flat c)
+flat_after app c (Delivered event) simple fits h = event_flat event c.copies c.plain h.copies.count (copy_jobs app c h.copies)
+flat_after app c (Stepped t kind) simple (selects, is) h =
+    (move_moved app c t simple h (chosen_is app c t.0 h selects)).image ∙ ap (λ k. unless (is_copying k) app t (flat c)) (sym is)
+flat_after app c Idled simple fits h = refl
+flat_after app c (Ended cause) simple fits h = refl
+
+-- ---- level
+
+-- a counted state is level with an image: the image is its settled state, and what every step keeps is so
+pub record IsLevel (app : App) (c : Counted) (image : Image) : Type 0 where
+  pub same : image.plain ≡ flat c
+  pub orderly : IsOrderly app c
+
+-- what the image does beside a step
 abbrev pub plainly : App → What → Image → Image
 plainly app (Delivered event) image = put_down event image
-plainly app (Stepped t kind) image = stepped_on app t.0 image
+plainly app (Stepped t kind) image = if is_copying kind then image else stepped_on app t.0 image
 plainly app Idled image = image
 plainly app (Ended cause) image = image
 
--- a step of a task by what its instruction came to is none of a copy
-pub no_copy : (taken : Taken) → is_copying (kind_by taken) ≡ false
-no_copy (Ran class) = refl
-no_copy CallStep = refl
-no_copy (FaultStep cause) = refl
-
--- beside a step the image takes the event or the step, and nothing else
-pub image_moves : (app : App) (c : Counted) (what : What) (image : Image) → Fits app c what → IsLevel app c.plain c.promises image
+-- the image takes the event or the step, unless it is one of a copy, and nothing else
+pub image_moves : (app : App) (c : Counted) (what : What) (image : Image) → Fits app c what → IsLevel app c image
     → moved app c what image ≡ plainly app what image
 image_moves app c (Delivered event) image fits level = refl
-image_moves app c (Stepped t kind) image (chosen, is) level =
-    let o = outcome app.table app.image.words t.0 c.plain in
-    let neither : (is_copying kind || is_ahead c t.0 image.plain) ≡ false =
-    ap (λ b. b || is_ahead c t.0 image.plain) (ap is_copying is ∙ no_copy (stepped_of o)) ∙ none_ahead c t.0 image.plain level.bare in
-    let selects : plain_selected app.table.tasks image.plain ≡ Some t.0 =
-    ap (plain_selected app.table.tasks) level.same ∙ sym (bare_selected app.table.tasks c level.bare) ∙ chosen in
-    ap (λ b. if b then image else one_step app image) neither ∙ ap (by_selected app image) selects
+image_moves app c (Stepped t kind) image (selects, is) level =
+    ap (λ b. if is_copying kind || b then image else one_step app image) (none_ahead c t.0 image.plain level.orderly.bare) ∙ by_kind (is_copying kind)
+  where
+    chosen : plain_selected app.table.tasks image.plain ≡ Some t.0
+    chosen = ap (plain_selected app.table.tasks) level.same ∙ flat_selected app c level.orderly.bare ∙ selects
+
+    by_kind : (b : Bool) → (if b || false then image else one_step app image) ≡ (if b then image else stepped_on app t.0 image)
+    by_kind true = refl
+    by_kind false = ap (by_selected app image) chosen
 image_moves app c Idled image fits level = refl
 image_moves app c (Ended cause) image fits level = refl
 
-bare_after : (app : App) (c : Counted) (what : What) → app.hints.hints ≡ [] → Bare c.promises → Bare (acted app c what).promises
-bare_after app c (Delivered event) e h = bare_event app event c.plain c.promises e h
-bare_after app c (Stepped t kind) e h = bare_step app (outcome app.table app.image.words t.0 c.plain) t.0 c.plain c.promises e h
-bare_after app c Idled e h = h
-bare_after app c (Ended cause) e h = h
-
 -- the image after a step, to a state with the promises that the step leaves
-pub image_is : (app : App) (c c' : Counted) (what : What) (image : Image) → IsSimple app → Fits app c what → IsLevel app c.plain c.promises image
+pub image_is : (app : App) (c c' : Counted) (what : What) (image : Image) → IsSimple app → Fits app c what → IsLevel app c image
     → c'.promises ≡ (acted app c what).promises → image_after app c c' what image ≡ plainly app what image
 image_is app c c' what image simple fits level e =
-    none_to_catch app most_ahead c' (moved app c what image) (subst Bare (sym e) (bare_after app c what simple.hints level.bare))
+    none_to_catch app most_ahead c' (moved app c what image) (subst Bare (sym e) (orderly_after app c what simple fits level.orderly).bare)
     ∙ image_moves app c what image fits level
 
-same_plainly : (app : App) (c : Counted) (what : What) (image : Image) → image.plain ≡ c.plain → (plainly app what image).plain ≡ (acted app c what).plain
-same_plainly app c (Delivered event) image e = ap (after_event event) e
-same_plainly app c (Stepped t kind) image e = ap (after_step app.table app.image.words (record { 0 = t.0 })) e
-same_plainly app c Idled image e = e
-same_plainly app c (Ended cause) image e = e
+plainly_is : (app : App) (what : What) (image : Image) → (plainly app what image).plain ≡ beside app what image.plain
+plainly_is app (Delivered event) image = refl
+plainly_is app (Stepped t kind) image = by_kind (is_copying kind)
+  where
+    by_kind : (b : Bool) → (if b then image else stepped_on app t.0 image).plain ≡ unless b app t image.plain
+    by_kind true = refl
+    by_kind false = refl
+plainly_is app Idled image = refl
+plainly_is app (Ended cause) image = refl
 
-owned_after : (app : App) (c : Counted) (what : What) (image : Image) → IsSimple app → Fits app c what → IsLevel app c.plain c.promises image
-    → Owned (acted app c what).plain
-owned_after app c (Delivered event) image simple fits level = owned_event event c.plain level.owned
-owned_after app c (Stepped t kind) image simple (chosen, is) level =
-    let awake = selected_awake app.table.tasks c.plain.tasks c.promises c.plain.owners t.0 chosen in
-    owned_step app.table (outcome app.table app.image.words t.0 c.plain) t c.plain
-    (tells app.table app.image.words t.0 c.plain (omega (arith, level.semaphores, simple.few)))
-    level.semaphores level.tasks awake (awake_inside c.plain.tasks t.0 awake) level.owned
-owned_after app c Idled image simple fits level = level.owned
-owned_after app c (Ended cause) image simple fits level = level.owned
+-- a state with the plain state, the promises and the copies that a step leaves
+pub record IsAfter (app : App) (c : Counted) (what : What) (c' : Counted) : Type 0 where
+  pub plain : c'.plain ≡ (acted app c what).plain
+  pub promises : c'.promises ≡ (acted app c what).promises
+  pub copies : c'.copies ≡ (acted app c what).copies
 
-count_after : (app : App) (c : Counted) (what : What) → length (acted app c what).plain.tasks ≡ length c.plain.tasks
-count_after app c (Delivered event) = event_count event c.plain
-count_after app c (Stepped t kind) = step_count (outcome app.table app.image.words t.0 c.plain) t c.plain
-count_after app c Idled = refl
-count_after app c (Ended cause) = refl
-
-semaphores_after : (app : App) (c : Counted) (what : What) → length (acted app c what).plain.owners ≡ length c.plain.owners
-semaphores_after app c (Delivered event) = ap length (event_owners event c.plain)
-semaphores_after app c (Stepped t kind) = step_owners (outcome app.table app.image.words t.0 c.plain) t c.plain
-semaphores_after app c Idled = refl
-semaphores_after app c (Ended cause) = refl
+pub flat_same : (c c' : Counted) → c'.plain ≡ c.plain → c'.copies ≡ c.copies → flat c' ≡ flat c
+flat_same c c' plain copies = ap (λ p. flat_of c'.copies p) plain ∙ ap (λ cs. flat_of cs c.plain) copies
 
 -- a step leaves both level
-pub level_after : (app : App) (c c' : Counted) (what : What) (image : Image) → IsSimple app → Fits app c what → IsLevel app c.plain c.promises image
-    → c'.plain ≡ (acted app c what).plain → c'.promises ≡ (acted app c what).promises
-    → IsLevel app c'.plain c'.promises (image_after app c c' what image)
-level_after app c c' what image simple fits level plain promises = record {
-  same = ap (λ (i : Image). i.plain) (image_is app c c' what image simple fits level promises) ∙ same_plainly app c what image level.same ∙ sym plain;
-  bare = subst Bare (sym promises) (bare_after app c what simple.hints level.bare);
-  owned = subst Owned (sym plain) (owned_after app c what image simple fits level);
-  tasks = ap (λ (p : Plain). length p.tasks) plain ∙ count_after app c what ∙ level.tasks;
-  semaphores = ap (λ (p : Plain). length p.owners) plain ∙ semaphores_after app c what ∙ level.semaphores;
+pub level_after : (app : App) (c c' : Counted) (what : What) (image : Image) → IsSimple app → Fits app c what → IsLevel app c image
+    → IsAfter app c what c'
+    → IsLevel app c' (image_after app c c' what image)
+level_after app c c' what image simple fits level after = record {
+  same =
+      ap (λ (i : Image). i.plain) (image_is app c c' what image simple fits level after.promises)
+      ∙ plainly_is app what image ∙ ap (beside app what) level.same ∙ sym (flat_after app c what simple fits level.orderly)
+      ∙ sym (flat_same (acted app c what) c' after.plain after.copies);
+  orderly = orderly_same app (acted app c what) c' after.plain after.promises after.copies (orderly_after app c what simple fits level.orderly);
 }

@@ -3,6 +3,17 @@ pub mod Owned
 pub mod Tells
 pub mod OwnedSteps
 pub mod Bare
+pub mod Words
+pub mod Flat
+pub mod Commutes
+pub mod Keeping
+pub mod Published
+pub mod Counts
+pub mod Copies
+pub mod CopyCalls
+pub mod Orderly
+pub mod Moves
+pub mod CopyMoves
 pub mod Levels
 pub mod Runs
 pub mod CountedSteps
@@ -13,3 +24,7 @@ pub mod PlainKept
 pub mod Traced
 pub mod ValidSchedule
 pub mod Sights
+pub mod StatesBefore
+pub mod ReadSteps
+pub mod ReadStarts
+pub mod WholeReads

@@ -104,3 +104,15 @@ owned_same p p' tasks owners h = record {
       let (u, owns, n) = h.waits x s (ap (λ ts. (task_at ts x).status) (sym tasks) ∙ e) in
       (u, ap (λ os. owner_at os s.0) owners ∙ owns, n);
 }
+
+-- and one with the same statuses
+pub owned_like : (p p' : Plain) → length p'.tasks ≡ length p.tasks → ((t : ℕ) → (task_at p'.tasks t).status ≡ (task_at p.tasks t).status)
+    → p'.owners ≡ p.owners → Owned p → Owned p'
+owned_like p p' count statuses owners h = record {
+  owner = λ s u e.
+      let (exists, awake) = h.owner s u (ap (λ os. owner_at os s) (sym owners) ∙ e) in
+      (subst (λ n. u.0 < n) (sym count) exists, statuses u.0 ∙ awake);
+  waits = λ x s e.
+      let (u, owns, n) = h.waits x s (sym (statuses x) ∙ e) in
+      (u, ap (λ os. owner_at os s.0) owners ∙ owns, n);
+}

@@ -14,8 +14,11 @@ use Rattle.em_gate.specs.State.{Plain}
 use Rattle.em_plain.specs.Runs.{Went, On, Full, Misfit, and_then, events, is_full, plain_run, state_of, steps}
 use Rattle.em_sched.specs.Agreement.{AreKept}
 use Rattle.em_sched.proofs.Agreeing.{bare_none, kept}
-use Rattle.em_sched.proofs.Boot.{level_boot}
-use Rattle.em_sched.proofs.Levels.{IsSimple, awake_inside, event_count, event_owners, selected_awake, step_count, step_owners}
+use Rattle.em_sched.proofs.Boot.{orderly_boot}
+use Rattle.em_kernel.proofs.TaskCounts.{event_count, step_count}
+use Rattle.em_sched.proofs.Counts.{event_owners, step_owners}
+use Rattle.em_sched.proofs.Levels.{awake_inside, selected_awake}
+use Rattle.em_sched.proofs.Orderly.{IsSimple}
 use Rattle.em_sched.proofs.Owned.{Owned}
 use Rattle.em_sched.proofs.OwnedSteps.{owned_event, owned_step}
 use Rattle.em_sched.proofs.Tells.{tells}
@@ -90,8 +93,8 @@ keeps_events app p count (e ∷ es) simple h =
 -- the state where a plain run stops
 pub plain_kept : (app : App) (ports : Places) (schedule : Schedule) → IsSimple app → AreKept app (state_of (plain_run app ports schedule)) []
 plain_kept app ports schedule simple =
-    let level = level_boot app ports in
-    let first : Keeps app (boot app ports) = record { owned = level.owned; tasks = level.tasks; semaphores = level.semaphores } in
+    let orderly = orderly_boot app ports in
+    let first : Keeps app (boot app ports) = record { owned = orderly.owned; tasks = orderly.tasks; semaphores = orderly.semaphores } in
     let h = keeps_then app (events app (boot app ports) 0 schedule.events) (λ p count. steps app (schedule.last - count) p count)
     (keeps_events app (boot app ports) 0 schedule.events simple first) (λ p count kept. keeps_steps app (schedule.last - count) p count simple kept) in
     kept app (state_of (plain_run app ports schedule)) [] h.owned h.tasks h.semaphores bare_none

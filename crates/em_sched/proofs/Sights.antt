@@ -15,16 +15,14 @@ use Rattle.em_kernel.specs.declared.did.What.TheVariants.{Delivered, Stepped, Id
 use Rattle.em_kernel.specs.Kept.{Kept, Stands}
 use Rattle.em_kernel.specs.Run.{counted_boot, is_end, state_from, steps_from}
 use Rattle.em_kernel.specs.Step.{step}
-use Rattle.em_gate.specs.Outcome.{outcome}
-use Rattle.em_system.specs.Taken.{stepped_of}
-use Rattle.em_sched.specs.Image.{Image, image_after, image_beside, image_boot, image_from, is_copying, scheduled}
+use Rattle.em_sched.specs.Image.{Image, image_after, image_beside, image_boot, image_from, is_copying, scheduled, stepped_on}
 use Rattle.em_sched.specs.Seen.{IsSeen, Sight, StandsFor, Tally, Tracks, put_by, steps_by}
 use Rattle.em_sched.specs.Traces.{events_in}
 use Rattle.em_sched.proofs.Agreeing.{simple}
 use Rattle.em_sched.proofs.Beside.{beside_from}
 use Rattle.em_sched.proofs.Boot.{beside_boot}
 use Rattle.em_sched.proofs.CountedSteps.{step_turn}
-use Rattle.em_sched.proofs.Levels.{Fits, image_is, no_copy, plainly}
+use Rattle.em_sched.proofs.Levels.{Fits, image_is, plainly}
 
 -- ---- the last of some steps
 
@@ -144,11 +142,15 @@ tracks_plainly app c (Delivered event) tally tally' image fits tracks count even
   count = let same = tracks.count in omega (arith, same, count);
   events = events ∙ ap (λ n. tally.events ++ (n, event) ∷ []) tracks.count ∙ ap (λ es. es ++ (image.count, event) ∷ []) tracks.events;
 }
-tracks_plainly app c (Stepped t kind) tally tally' image (chosen, is) tracks count events =
-    let copies : is_copying kind ≡ false = ap is_copying is ∙ no_copy (stepped_of (outcome app.table app.image.words t.0 c.plain)) in
-    let one : steps_by (Stepped t kind) ≡ 1 = ap one_unless copies in
-    record {
-      count = let same = tracks.count in omega (arith, same, count, one);
+tracks_plainly app c (Stepped t kind) tally tally' image fits tracks count events = by_kind (is_copying kind) count
+  where
+    by_kind : (b : Bool) → tally'.count ≡ tally.count + one_unless b → Tracks tally' (if b then image else stepped_on app t.0 image)
+    by_kind true counted = record {
+      count = let same = tracks.count in omega (arith, same, counted);
+      events = events ∙ none_more tally.events ∙ tracks.events;
+    }
+    by_kind false counted = record {
+      count = let same = tracks.count in omega (arith, same, counted);
       events = events ∙ none_more tally.events ∙ tracks.events;
     }
 tracks_plainly app c Idled tally tally' image fits tracks count events = record {
@@ -164,17 +166,17 @@ tracks_plainly app c (Ended cause) tally tally' image fits tracks count events =
 pub stands_more : (app : App) (tally tally' : Tally) (sights : List Sight) (did : Did) (kernel : Kept)
     → tally'.count ≡ tally.count + steps_by did.what → tally'.events ≡ tally.events ++ put_by did.what tally.count
     → StandsFor app tally sights → StandsFor app tally' (sights ++ record { did = did; kernel = kernel } ∷ [])
-stands_more app tally tally' sights did kernel count events stands = λ is messages none ports seen.
+stands_more app tally tally' sights did kernel count events stands = λ is none ports seen.
     let sight : Sight = record { did = did; kernel = kernel } in
     let n = length sights in
     let last = seen_last app ports sights sight seen in
-    let tracks : Tracks tally (image_beside app ports n) = stands is messages none ports (seen_before app ports sights sight seen) in
+    let tracks : Tracks tally (image_beside app ports n) = stands is none ports (seen_before app ports sights sight seen) in
     let c : Counted = state_from app n (counted_boot app ports) in
     let beside = beside_from app (boot app ports) (events_in (events_of app)) n (counted_boot app ports) (image_boot app ports) (simple app is none) (beside_boot app ports) in
     let turn = step_turn app c in
     let what = (step app c).did.what in
     let same : did.what ≡ what = ap (λ (d : Did). d.what) last.last in
-    let image = image_is app c (step app c).state what (image_beside app ports n) (simple app is none) turn.fits beside.level turn.promises in
+    let image = image_is app c (step app c).state what (image_beside app ports n) (simple app is none) turn.fits beside.level turn.after.promises in
     let counted = count ∙ ap (λ w. tally.count + steps_by w) same in
     let put = events ∙ ap (λ w. tally.events ++ put_by w tally.count) same in
     subst (λ m. Tracks tally' (image_beside app ports m)) (sym (length_more sights sight))
@@ -184,15 +186,15 @@ stands_more app tally tally' sights did kernel count events stands = λ is messa
 -- at first it stands for no step
 pub stands_first : (app : App) (tally : Tally) → tally.count ≡ 0 → tally.events ≡ [] → StandsFor app tally []
 unfolding image_from
-stands_first app tally count events = λ is messages none ports seen. record { count = count; events = events }
+stands_first app tally count events = λ is none ports seen. record { count = count; events = events }
 
 abbrev pub as_schedule : List (ℕ × Event) → ℕ → Schedule
 as_schedule events last = record { events = events; last = last }
 
 -- the schedule of what it counted is that of the image
 pub finishes : (app : App) (tally : Tally) (sights : List Sight) (ports : Places) → StandsFor app tally sights
-    → IsTable app.table → app.table.messages ≡ [] → app.hints.hints ≡ [] → IsSeen app ports sights
+    → IsTable app.table → app.hints.hints ≡ [] → IsSeen app ports sights
     → as_schedule tally.events tally.count ≡ scheduled (image_beside app ports (length sights))
-finishes app tally sights ports stands is messages none seen =
-    let tracks = stands is messages none ports seen in
+finishes app tally sights ports stands is none seen =
+    let tracks = stands is none ports seen in
     ap (λ es. as_schedule es tally.count) tracks.events ∙ ap (λ n. as_schedule (image_beside app ports (length sights)).events n) tracks.count

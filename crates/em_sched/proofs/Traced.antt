@@ -11,7 +11,7 @@ use Rattle.em_sched.specs.Image.{image_beside, image_boot, schedule_of}
 use Rattle.em_sched.specs.Traces.{Gives, events_in, lines_in}
 use Rattle.em_sched.proofs.Beside.{IsBeside, beside_from, lines_from}
 use Rattle.em_sched.proofs.Boot.{beside_boot}
-use Rattle.em_sched.proofs.Levels.{IsSimple}
+use Rattle.em_sched.proofs.Orderly.{IsSimple}
 
 -- the image at the end of a run
 pub at_end : (app : App) (ports : Places) → IsSimple app

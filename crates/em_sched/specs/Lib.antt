@@ -3,3 +3,4 @@ pub mod Turns
 pub mod Agreement
 pub mod Traces
 pub mod Seen
+pub mod Reads

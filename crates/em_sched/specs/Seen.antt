@@ -38,7 +38,7 @@ pub record Tracks (tally : Tally) (image : Image) : Type 0 where
 -- it stands for steps that were seen: it has the steps and the events of the image beside every run of the application that is seen so
 abbrev pub StandsFor : App → Tally → List Sight → Type 0
 StandsFor app tally sights =
-    IsTable app.table → app.table.messages ≡ [] → app.hints.hints ≡ [] → (ports : Places) → IsSeen app ports sights
+    IsTable app.table → app.hints.hints ≡ [] → (ports : Places) → IsSeen app ports sights
     → Tracks tally (image_beside app ports (length sights))
 
 -- the event that a step delivers, with the steps before it

@@ -3,17 +3,17 @@
 use Rattle.std.specs.Prelude.{ℕ, List, [], ◌∷◌, Option, None, Some}
 use Rattle.em_base.specs.declared.apps.App.{App}
 use Rattle.em_base.specs.declared.events.Event.{Event}
+use Rattle.em_base.specs.declared.ids.TaskId.{TaskId}
 use Rattle.em_ports.specs.Ports.{Places}
-use Rattle.em_gate.specs.Effects.{after_outcome}
 use Rattle.em_gate.specs.Events.{after_event}
-use Rattle.em_gate.specs.Outcome.{outcome}
 use Rattle.em_gate.specs.Selecting.{counted_selected}
 use Rattle.em_gate.specs.State.{Counted}
 use Rattle.em_kernel.specs.declared.did.What.{What}
 use Rattle.em_kernel.specs.declared.did.What.TheVariants.{Delivered, Stepped, Idled, Ended}
 use Rattle.em_kernel.specs.Run.{counted_boot}
-use Rattle.em_kernel.specs.Step.{kind_of}
-use Rattle.em_system.specs.Promises.{promises_after, promises_after_event}
+use Rattle.em_kernel.specs.Moves.{Lapses, Move, after_move, move_of}
+use Rattle.em_kernel.specs.Step.{kind_of, lapsed}
+use Rattle.em_system.specs.Promises.{promises_after_event}
 use Rattle.em_sched.specs.Image.{Image, image_after, image_boot}
 
 -- a turn: an event, or a step of the selected task
@@ -21,10 +21,15 @@ pub data Turn : Type 0 where
   Comes : Event → Turn
   Thread : Turn
 
+-- what a step of the task t is: a copied word of a read that has lapsed ends the run
+abbrev pub move_what : Counted → TaskId → Move → What
+move_what c t (Lapses m noted) = Ended (lapsed c m noted)
+move_what c t move = Stepped t (kind_of move)
+
 -- what a step of a selected task is, where there is one
 abbrev pub thread_what : App → Counted → Option ℕ → What
 thread_what app c None = Idled
-thread_what app c (Some t) = Stepped (record { 0 = t }) (kind_of (outcome app.table app.image.words t c.plain))
+thread_what app c (Some t) = move_what c (record { 0 = t }) (move_of app c t)
 
 -- what a turn is to the counted machine
 abbrev pub what_of : App → Counted → Turn → What
@@ -37,10 +42,7 @@ acted app c (Delivered event) = record c {
   plain = after_event event c.plain;
   promises = promises_after_event app event c.plain c.promises;
 }
-acted app c (Stepped t kind) = record c {
-  plain = after_outcome (outcome app.table app.image.words t.0 c.plain) t c.plain;
-  promises = promises_after app (outcome app.table app.image.words t.0 c.plain) t.0 c.plain c.promises;
-}
+acted app c (Stepped t kind) = after_move app (move_of app c t.0) t c
 acted app c Idled = c
 acted app c (Ended cause) = c
 

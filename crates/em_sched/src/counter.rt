@@ -129,8 +129,8 @@ impl Counter {
     /// The schedule of the steps seen: the events put down, and the number of steps.
     pub fn finish(self) -> Schedule
         ensures schedule { (app : Application) (steps : List Sight) (ports : Places)
-            → StandsFor app self steps → IsTable app.table → app.table.messages ≡ []
-            → app.hints.hints ≡ [] → IsSeen app ports steps
+            → StandsFor app self steps → IsTable app.table → app.hints.hints ≡ []
+            → IsSeen app ports steps
             → result ≡ scheduled (image_beside app ports (length steps)) }
         ensures events { result.events ≡ self.events }
         ensures last { result.last ≡ self.count }

@@ -5,4 +5,4 @@ mod counter;
 mod laws;
 
 pub use counter::Counter;
-pub use laws::{agree, same_trace, valid_schedule};
+pub use laws::{agree, same_trace, valid_schedule, whole_reads};

@@ -15,3 +15,5 @@ pub mod Sound
 pub mod Steps
 pub mod Started
 pub mod Parts
+pub mod Words
+pub mod Owns

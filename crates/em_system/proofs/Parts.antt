@@ -1,9 +1,8 @@
 -- What a step of the selected task asks of the tasks that are held, and what it leaves of it.
 use Rattle.std.proofs.Math.Path.{fun_ext}
-use Rattle.std.proofs.Common.{◌≡◌, ◌∙◌, ◌&&◌, Bool, slice_index_or, zero, suc, ℕ, ◌+◌, ◌<◌, ◌^◌, List, [], ◌∷◌, length, All, IfSome, IsSome, true, Option, None, Some, sym, ap, subst, refl, arith, ℤ}
+use Rattle.std.proofs.Common.{◌≡◌, ◌∙◌, ◌&&◌, Bool, slice_index_or, zero, suc, ℕ, ◌+◌, ◌<◌, ◌^◌, List, [], ◌∷◌, length, All, IfSome, IsSome, true, false, Option, None, Some, sym, ap, subst, refl, cond, arith, ℤ}
 use Rattle.std.proofs.lemmas.List.{length-map}
 use Rattle.std.proofs.lemmas.List.Elements.{All-nil, All-cons, All-head, All-tail}
-use Rattle.em_base.specs.declared.apps.App.{App}
 use Rattle.em_base.specs.declared.ids.SemId.{SemId}
 use Rattle.em_base.specs.declared.ids.TaskId.{TaskId}
 use Rattle.em_base.specs.declared.jobs.Status.TheVariants.{Awake}
@@ -11,8 +10,7 @@ use Rattle.em_base.specs.declared.tables.Table.{Table}
 use Rattle.em_base.specs.declared.jobs.Key.{Key}
 use Rattle.em_base.specs.declared.jobs.Status.{Status}
 use Rattle.em_base.specs.Selection.{Scene, is_active, is_awake, is_none, no_key, owner_at, owner_of, selected, status_at, stopper, stopper_at}
-use Rattle.em_hart.specs.declared.answers.Stepped.{Stepped}
-use Rattle.em_hart.specs.declared.answers.Stepped.TheVariants.{Call}
+use Rattle.em_hart.specs.declared.answers.Class.{Class}
 use Rattle.em_hart.specs.Hart.{Memory}
 use Rattle.em_ports.specs.Ports.{Places}
 use Rattle.em_trace.specs.declared.lines.Line.{Line}
@@ -20,17 +18,18 @@ use Rattle.em_gate.specs.declared.calls.Call.{Call as KernelCall}
 use Rattle.em_gate.specs.declared.calls.Call.TheVariants.{WaitJob, Acquire, Release, Out, Write, Read, Signal, Exit, Unknown}
 use Rattle.em_gate.specs.Effects.{after_outcome, line_by, with_core as task_with_core}
 use Rattle.em_gate.specs.Calls.{Known, call_of, refusal}
-use Rattle.em_gate.specs.Outcome.{Outcome, acquire_outcome, accepted, call_outcome, call_outcome_by}
+use Rattle.em_gate.specs.Outcome.{Outcome, Falls, acquire_outcome, accepted, call_outcome, call_outcome_by}
 use Rattle.em_gate.specs.Selecting.{keys_of, plain_selected, scene_in, statuses_of}
 use Rattle.em_gate.specs.State.{Core, Plain, task_at}
 use Rattle.em_threads.specs.Threads.{Thread, changed, thread_at, with_core}
 use Rattle.em_system.specs.Held.{Held, Holds, promises_of, selected_of, tasks_of}
-use Rattle.em_system.specs.Promises.{promises_after}
 use Rattle.em_system.specs.Sound.{IsSound}
-use Rattle.em_system.specs.Taken.{stepped_of}
+use Rattle.em_system.specs.declared.stepping.Taken.TheVariants.{Ran, Called, Faulted, Asks}
+use Rattle.em_system.specs.declared.stepping.Transfer.{Transfer}
+use Rattle.em_system.specs.Asked.{after_asking, fault_line, is_transfer, taken_of}
 use Rattle.em_system.proofs.Holding.{IsBare}
 use Rattle.em_system.proofs.Scenes.{scene_same, selected_awake, selected_inside}
-use Rattle.em_system.proofs.Sound.{sound_anywhere, sound_outcome}
+use Rattle.em_system.proofs.Sound.{sound_anywhere, sound_more, sound_outcome}
 use Rattle.em_system.proofs.Stands.{promises_same, task_of_thread}
 
 -- a plain state for what is held and for ports
@@ -70,16 +69,22 @@ few_here n (thread ∷ threads) h sound =
 pub few_jobs : (n : ℕ) (threads : List Thread) → n < 2 ^ 63 → All (IsSound n) (tasks_of threads) → All (λ thread. thread.task.taken < 2 ^ 63) threads
 few_jobs n threads h sound = few_here n threads h sound
 
+asking_sound : (transfer : Bool) (o : Outcome) (t : TaskId) (p : Plain) (n : ℕ) → All (IsSound n) p.tasks → t.0 < length p.tasks
+    → is_active (task_at p.tasks t.0).status ≡ true
+    → All (IsSound (n + 1)) (cond transfer p (after_outcome o t p)).tasks
+asking_sound true o t p n sound inside active = sound_more n (n + 1) p.tasks (omega arith) sound
+asking_sound false o t p n sound inside active = sound_outcome o t p n sound inside active
+
 -- the tasks are sound after a step of one that is Awake
 pub sound_step : (held held' : Held) (places : Places) (t : TaskId) (o : Outcome) (n : ℕ) (promises : List (Option SemId))
     → All (IsSound n) (tasks_of held.threads) → t.0 < length held.threads → (thread_at held.threads t.0).task.status ≡ Awake
-    → Holds held' (after_outcome o t (plain_of held places)) promises
+    → Holds held' (after_asking o t (plain_of held places)) promises
     → All (IsSound (n + 1)) (tasks_of held'.threads)
 sound_step held held' places t o n promises sound inside awake holds =
     let there : t.0 < length (tasks_of held.threads) = subst (λ k. t.0 < k) (sym (length-map held.threads (λ thread. thread.task))) inside in
     let active : is_active (task_at (tasks_of held.threads) t.0).status ≡ true =
     ap (λ task. is_active task.status) (task_of_thread held.threads t.0 inside) ∙ ap is_active awake in
-    subst (All (IsSound (n + 1))) (sym holds.tasks) (sound_outcome o t (plain_of held places) n sound there active)
+    subst (All (IsSound (n + 1))) (sym holds.tasks) (asking_sound (is_transfer o) o t (plain_of held places) n sound there active)
 
 -- an Awake task that is sound has a job
 pub awake_works : (n : ℕ) (threads : List Thread) (t : ℕ) → All (IsSound n) (tasks_of threads) → t < length threads
@@ -107,36 +112,47 @@ awake_of held t e = selected_awake held.app.table.tasks held.threads (promises_o
 
 -- ---- what a step was
 
-acquire_stepped : (s : ℕ) (owner : Option TaskId) → Call ≡ stepped_of (acquire_outcome s owner)
-acquire_stepped s None = refl
-acquire_stepped s (Some u) = refl
+called_or_ran : (line : Option Line) (class : Class) → Called line ≡ Ran class → ⊥
+called_or_ran line class e = cc
 
-accepted_stepped : (table : Table) (owners : List (Option TaskId)) (call : KernelCall) → Call ≡ stepped_of (accepted table owners call)
-accepted_stepped table owners WaitJob = refl
-accepted_stepped table owners (Acquire s) = acquire_stepped s (owner_at owners s)
-accepted_stepped table owners (Release s) = refl
-accepted_stepped table owners (Out port word) = refl
-accepted_stepped table owners (Write m at) = refl
-accepted_stepped table owners (Read m at) = refl
-accepted_stepped table owners (Signal u word) = refl
-accepted_stepped table owners Exit = refl
-accepted_stepped table owners (Unknown number) = refl
+asked_or_ran : (transfer : Transfer) (class : Class) → Asks transfer ≡ Ran class → ⊥
+asked_or_ran transfer class e = cc
 
-stepped_by : (table : Table) (owners : List (Option TaskId)) (call : KernelCall) (answer : Option ℤ) → Call ≡ stepped_of (call_outcome_by table owners call answer)
-stepped_by table owners call None = accepted_stepped table owners call
-stepped_by table owners call (Some code) = refl
+acquire_calls : (s : ℕ) (owner : Option TaskId) (t : TaskId) (p : Plain) (class : Class) → taken_of (acquire_outcome s owner) t p ≡ Ran class → ⊥
+acquire_calls s None t p class e = called_or_ran _ class e
+acquire_calls s (Some u) t p class e = called_or_ran _ class e
 
--- whatever a call comes to, its step is a call
-pub call_stepped : (table : Table) (t : ℕ) (known : Known) (owners : List (Option TaskId)) (core : Core) → Call ≡ stepped_of (call_outcome table t known owners core)
-call_stepped table t known owners core = stepped_by table owners (call_of core.registers) (refusal (call_of core.registers) table t known)
+accepted_calls : (table : Table) (owners : List (Option TaskId)) (call : KernelCall) (t : TaskId) (p : Plain) (class : Class)
+    → taken_of (accepted table owners call) t p ≡ Ran class → ⊥
+accepted_calls table owners WaitJob t p class e = called_or_ran _ class e
+accepted_calls table owners (Acquire s) t p class e = acquire_calls s (owner_at owners s) t p class e
+accepted_calls table owners (Release s) t p class e = called_or_ran _ class e
+accepted_calls table owners (Out port word) t p class e = called_or_ran _ class e
+accepted_calls table owners (Write m at) t p class e = asked_or_ran _ class e
+accepted_calls table owners (Read m at) t p class e = asked_or_ran _ class e
+accepted_calls table owners (Signal u word) t p class e = called_or_ran _ class e
+accepted_calls table owners Exit t p class e = called_or_ran _ class e
+accepted_calls table owners (Unknown number) t p class e = called_or_ran _ class e
 
--- what is held, the ports, what the step was and its line are those of an outcome
-abbrev pub Takes : Held → Places → Stepped → Option Line → App → TaskId → Plain → List (Option SemId) → Outcome → Type 0
-Takes held places stepped line app t p promises o =
-    Holds held (after_outcome o t p) (promises_after app o t.0 p promises)
-    × (places ≡ (after_outcome o t p).ports)
-    × (stepped ≡ stepped_of o)
-    × (line ≡ line_by o t (task_at p.tasks t.0) p)
+calls_by : (table : Table) (owners : List (Option TaskId)) (call : KernelCall) (answer : Option ℤ) (t : TaskId) (p : Plain) (class : Class)
+    → taken_of (call_outcome_by table owners call answer) t p ≡ Ran class → ⊥
+calls_by table owners call None t p class e = accepted_calls table owners call t p class e
+calls_by table owners call (Some code) t p class e = called_or_ran _ class e
+
+-- a call is told to be no instruction, whatever it comes to
+pub never_ran : (table : Table) (t : TaskId) (known : Known) (owners : List (Option TaskId)) (core : Core) (p : Plain) (class : Class)
+    → taken_of (call_outcome table t.0 known owners core) t p ≡ Ran class → ⊥
+never_ran table t known owners core p class e =
+    calls_by table owners (call_of core.registers) (refusal (call_of core.registers) table t.0 known) t p class e
+
+-- the line of a fault is told
+pub fault_is : (cause : ℕ) (t : TaskId) (p : Plain) (line : Line) → Some line ≡ line_by (Falls cause) t (task_at p.tasks t.0) p
+    → Faulted line ≡ taken_of (Falls cause) t p
+unfolding line_by
+fault_is cause t p line e = ap Faulted (some_is line (fault_line cause t p) e)
+  where
+    some_is : (a b : Line) → Some a ≡ Some b → a ≡ b
+    some_is a b f = cc
 
 -- ---- the plain machine's selection
 

@@ -84,7 +84,7 @@ sound_event (Unplug port) p n h s = sound_more n (n + 1) p.tasks (omega arith) s
 
 -- ---- a step of a task
 
-same_jobs : (n : ℕ) (core : Core) (task : Task) → IsSound n task → IsSound n (with_core core task)
+pub same_jobs : (n : ℕ) (core : Core) (task : Task) → IsSound n task → IsSound n (with_core core task)
 same_jobs n core task s = record { few = s.few; early = s.early; later = s.later; working = s.working }
 
 jobs_sound : (n : ℕ) (task : Task) (jobs : List Job) → All IsEarly jobs → IsSound n task → IsSound n (after_jobs jobs task)

@@ -37,7 +37,6 @@ selected_of held = selected (scene_in held.app.table.tasks (tasks_of held.thread
 -- what is always so of it. By now no task has a promise or a hint, since no hints are supported
 pub record IsHeld (app : App) (ranks : List Rank) (standings : List Standing) (threads : List Thread) (owners : List (Option TaskId)) (shared : Memory) : Type 0 where
   pub whole : IsApp app
-  pub messages : app.table.messages ≡ []
   pub hints : app.hints.hints ≡ []
   pub ranked : ranks ≡ ranks_of app.table.tasks
   pub seen : length standings ≡ length app.table.tasks
@@ -45,6 +44,7 @@ pub record IsHeld (app : App) (ranks : List Rank) (standings : List Standing) (t
   pub semaphores : length owners ≡ app.table.semaphores
   pub based : shared.base ≡ shared_base
   pub bare : All (λ thread. (thread.promise ≡ None) × (thread.hint ≡ None)) threads
+  pub windows : All (λ thread. length thread.task.core.own.bytes ≡ app.table.own) threads
 
 -- what is held before anything has happened
 abbrev pub held_boot : App → Held

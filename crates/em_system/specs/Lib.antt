@@ -5,3 +5,5 @@ pub mod Possible
 pub mod Sound
 pub mod Carried
 pub mod Taken
+pub mod Windows
+pub mod Asked

@@ -28,11 +28,10 @@ const NO_STANDING: Standing = Standing {
 
 impl<'a> System<'a> {
     /// The tasks, the semaphores and the shared window of an application before anything has happened, for an application
-    /// without messages and without hints: each task is asleep at its entry and no semaphore has an owner. Its only refusal is
+    /// without hints: each task is asleep at its entry and no semaphore has an owner. Its only refusal is
     /// `NoMemory`.
     pub fn boot(alloc: Global, app: &'a App) -> Result<System<'a>, NoMemory>
         requires app { IsApp app.now }
-        requires messages { app.now.table.messages ≡ [] }
         requires hints { app.now.hints.hints ≡ [] }
         ensures app { IfOk result (λ system. system.app ≡ app.now) }
         ensures holds { let none = replicate (length app.now.table.tasks) None in (places : Places)
@@ -46,7 +45,6 @@ impl<'a> System<'a> {
     /// The same, by what it is.
     fn new(alloc: Global, app: &'a App) -> Result<System<'a>, NoMemory>
         requires app { IsApp app.now }
-        requires messages { app.now.table.messages ≡ [] }
         requires hints { app.now.hints.hints ≡ [] }
         ensures { IfOk result (λ system. system ≡ held_boot app.now) }
     {

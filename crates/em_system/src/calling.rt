@@ -11,12 +11,18 @@ ghost use Rattle.em_gate.specs.Effects as effect;
 ghost use Rattle.em_gate.specs.Outcome.{call_outcome, known_at};
 ghost use Rattle.em_gate.specs.Outcome as outcome;
 ghost use Rattle.em_threads.specs.Threads.{thread_at};
+ghost use Rattle.em_gate.specs.Calls.{Known};
+ghost use Rattle.em_gate.specs.Calls.{refusal as refusal_of};
+ghost use Rattle.em_system.specs.declared.stepping.Taken.{Taken as Asked};
+ghost use Rattle.em_system.specs.declared.stepping.Transfer.{Transfer as Requested};
+ghost use Rattle.em_system.specs.Asked.{IsGranted, after_asking, taken_of};
 ghost use Rattle.em_system.specs.Held.{Holds};
 ghost use Rattle.em_system.specs.Promises.{promises_after};
 
 use crate::knowing::{full_bits, owned_bits, plugged_bits};
+use crate::stepping::{Taken, Transfer};
 use crate::system::System;
-use em_base::{Job, PortId, SemId, TaskId};
+use em_base::{Job, MsgId, PortId, SemId, TaskId};
 use em_gate::{Call, Facts, read_call, refusal};
 use em_ports::{Ports, Seen};
 use em_trace::Line;
@@ -37,8 +43,9 @@ impl<'a> System<'a> {
 }
 
 impl<'a> System<'a> {
-    /// Carries out the kernel call of a task, which is awake and has a job. The answer is the line that it gives.
-    pub(crate) fn call(&mut self, t: TaskId, ports: &mut Ports) -> Option<Line>
+    /// Carries out the kernel call of a task, which is awake and has a job. A call that asks for a message to be written or read,
+    /// and isn't refused, is left to the caller.
+    pub(crate) fn call(&mut self, t: TaskId, ports: &mut Ports) -> Taken
         requires exists { t.0 < length self.old.threads }
         requires awake { (thread_at self.old.threads t.0).task.status ≡ TaskStatus.Awake }
         requires working { IsSome (thread_at self.old.threads t.0).task.job }
@@ -48,25 +55,61 @@ impl<'a> System<'a> {
             → seen ports.old ≡ p.ports
             → let core = (task_at p.tasks t.0).core in
             let o = call_outcome self.old.app.table t.0 (known_at p t.0) p.owners core in
-            Holds self.new (after_outcome o t p) (promises_after self.old.app o t.0 p promises)
-            × (seen ports.new ≡ (after_outcome o t p).ports)
-            × (result ≡ line_by o t (task_at p.tasks t.0) p) }
+            Holds self.new (after_asking o t p) (promises_after self.old.app o t.0 p promises)
+            × (seen ports.new ≡ (after_asking o t p).ports) × (result ≡ taken_of o t p) }
         ensures app { self.new.app ≡ self.old.app }
+        ensures granted { (transfer : Requested) → result ≡ Asked.Asks transfer
+            → IsGranted self.old.app.table t.0 transfer }
+        ensures asks { (transfer : Requested) → result ≡ Asked.Asks transfer → self.new ≡ self.old }
     {
         let call = read_call(self.threads.regs(t));
         let facts = self.facts(t, ports);
         match refusal(&call, &self.app.table, t, &facts) {
-            Some(code) => Some(self.refused(t, code)),
-            None => match call {
-                Call::WaitJob => Some(self.finish(t)),
-                Call::Acquire(s) => self.acquire(t, SemId(s as u8)),
-                Call::Release(s) => Some(self.release_semaphore(t, SemId(s as u8))),
-                Call::Out { port, word } => Some(self.put(t, PortId(port as u8), word, ports)),
-                Call::Signal { task, word } => Some(self.give(t, TaskId(task as u8), word)),
-                Call::Exit => Some(self.exit(t)),
-                // Without messages a write and a read are refused always.
-                Call::Write { .. } | Call::Read { .. } | Call::Unknown(_) => None,
-            },
+            Some(code) => Taken::Called(Some(self.refused(t, code))),
+            None => self.accept(call, t, ports),
+        }
+    }
+
+    /// Carries out a call that isn't refused.
+    fn accept(&mut self, call: Call, t: TaskId, ports: &mut Ports) -> Taken
+        requires exists { t.0 < length self.old.threads }
+        requires awake { (thread_at self.old.threads t.0).task.status ≡ TaskStatus.Awake }
+        requires working { IsSome (thread_at self.old.threads t.0).task.job }
+        requires few { All (λ thread. thread.task.taken < 2 ^ 63) self.old.threads }
+        requires accepted { (known : Known) × (refusal_of call self.old.app.table t.0 known ≡ None) }
+        ensures step { let seen = ⟦<Ports as Seen>⟧.seen_as in
+            (p : Plain) (promises : List (Option Semaphore)) → Holds self.old p promises
+            → seen ports.old ≡ p.ports
+            → let o = outcome.accepted self.old.app.table p.owners call in
+            Holds self.new (after_asking o t p) (promises_after self.old.app o t.0 p promises)
+            × (seen ports.new ≡ (after_asking o t p).ports) × (result ≡ taken_of o t p) }
+        ensures app { self.new.app ≡ self.old.app }
+        ensures granted { (transfer : Requested) → result ≡ Asked.Asks transfer
+            → IsGranted self.old.app.table t.0 transfer }
+        ensures asks { (transfer : Requested) → result ≡ Asked.Asks transfer → self.new ≡ self.old }
+    {
+        let _ = &self.app;
+        match call {
+            Call::WaitJob => Taken::Called(Some(self.finish(t))),
+            Call::Acquire(s) => Taken::Called(self.acquire(t, SemId(s as u8))),
+            Call::Release(s) => Taken::Called(Some(self.release_semaphore(t, SemId(s as u8)))),
+            Call::Out { port, word } => {
+                Taken::Called(Some(self.put(t, PortId(port as u8), word, ports)))
+            }
+            Call::Write { msg, at } => Taken::Asks(Transfer::Write {
+                msg: MsgId(msg as u8),
+                at,
+            }),
+            Call::Read { msg, at } => Taken::Asks(Transfer::Read {
+                msg: MsgId(msg as u8),
+                at,
+            }),
+            Call::Signal { task, word } => {
+                Taken::Called(Some(self.give(t, TaskId(task as u8), word)))
+            }
+            Call::Exit => Taken::Called(Some(self.exit(t))),
+            // A call that there isn't is refused always.
+            Call::Unknown(_) => Taken::Called(None),
         }
     }
 

@@ -9,6 +9,7 @@ ghost use Rattle.em_system.specs.Held.{Holds, tasks_of};
 ghost use Rattle.em_system.specs.Possible.{IsPossible};
 ghost use Rattle.em_system.specs.Promises.{promises_after_event, promises_given};
 ghost use Rattle.em_system.specs.Sound.{IsSound};
+ghost use Rattle.em_system.specs.Windows.{core_in};
 
 use crate::system::System;
 use em_base::{Event, PortId, TaskId};
@@ -32,6 +33,10 @@ impl<'a> System<'a> {
         // The tasks stay sound, for one job more.
         ensures sound { (n : ℕ) → All (IsSound n) (tasks_of self.old.threads)
             → All (IsSound (n + 1)) (tasks_of self.new.threads) }
+
+        // The own windows of tasks stay as they are.
+        ensures windows { (u : ℕ)
+            → (core_in self.new.threads u).own ≡ (core_in self.old.threads u).own }
     {
         match event {
             Event::Release { task, time, word } => Some(self.release_job(task, time, word)),

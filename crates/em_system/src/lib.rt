@@ -14,6 +14,8 @@ mod standing;
 mod stepping;
 mod system;
 mod trace;
+mod transfers;
 
+pub use stepping::{Taken, Transfer};
 pub use system::System;
 pub use trace::put_line;

@@ -1,13 +1,15 @@
-use Rattle.std.proofs.Common.{◌≡◌, ◌<◌, ◌≤◌, length, sym, ap, subst, arith}
-use Rattle.em_bundle.proofs.DeepBuffers.{deep_here, none_more}
+use Rattle.std.proofs.Common.{◌≡◌, ◌<◌, ◌≤◌, length, ap, subst, arith}
+use Rattle.em_admit.specs.Depth.{depth, most_values}
+use Rattle.em_bundle.proofs.DeepBuffers.{AreShallowTo, one_more}
 use Rattle.em_bundle.proofs.loading.is_too_deep.Goals as goal
 
-pub returns-then-depth-gt-MOST_VALUES : goal.returns-then-depth-gt-MOST_VALUES
-returns-then-depth-gt-MOST_VALUES c =
-    let table = c.args.table.now in
-    let inside : c.loop-m.m < length table.messages = omega (arith, c.loop-m-test.true, ap length c.as_slice-m-end.ensures) in
-    deep_here table c.loop-m.m c.depth.result inside c.depth.ensures.depth (omega (arith, c.if-depth-gt-MOST_VALUES.true))
+pub returns-then-depth-gt-MOST_VALUES-clause-deep : goal.returns-then-depth-gt-MOST_VALUES-clause-deep
+returns-then-depth-gt-MOST_VALUES-clause-deep c = λ _. (
+    let inside : c.loop-m.m < length c.args.table.now.messages = omega (arith, c.loop-m-test.true, ap length c.as_slice-m-end.ensures) in
+    let more : most_values < c.depth.result = omega (arith, c.if-depth-gt-MOST_VALUES.true) in
+    record { m = c.loop-m.m; here = inside; deep = subst (λ n. most_values < n) c.depth.ensures.depth more })
 
 pub loop-m-preserved : goal.loop-m-preserved
 loop-m-preserved c =
-    none_more c.args.table.now c.loop-m.m c.depth.result c.loop-m.invariant c.depth.ensures.depth (omega (arith, c.if-depth-gt-MOST_VALUES.false))
+    let few : c.depth.result ≤ most_values = omega (arith, c.if-depth-gt-MOST_VALUES.false) in
+    one_more c.args.table.now c.loop-m.m c.loop-m.invariant (subst (λ n. n ≤ most_values) c.depth.ensures.depth few)

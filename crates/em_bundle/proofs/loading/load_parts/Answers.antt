@@ -10,7 +10,7 @@ returns-in_err-script-clause-refused c =
     handed-on (IsPartsFail c.args.replay parts) c.from_residual-in_err-script.result c.in_err-script.field-0.0 c.from_residual-in_err-script.ensures.0 c.from_residual-in_err-script.ensures.1
     (script-fails c.args.replay parts c.in_ok-table.table c.in_ok-image.image c.in_err-script.field-0.0
     (record {
-      readable = record { tabled = c.in_ok-table.ensures.table; without_messages = c.in_ok-table.ensures.empty };
+      readable = record { tabled = c.in_ok-table.ensures.table; shallow = c.in_ok-table.ensures.shallow };
       coded = c.in_ok-image.ensures.image;
       entries = c.in_ok-image.ensures.entries;
     })
@@ -21,7 +21,7 @@ returns-in_err-image-clause-refused c =
     let parts = part_lines c.args.parts.now in
     handed-on (IsPartsFail c.args.replay parts) c.from_residual-in_err-image.result c.in_err-image.field-0.0 c.from_residual-in_err-image.ensures.0 c.from_residual-in_err-image.ensures.1
     (image-fails c.args.replay parts c.in_ok-table.table c.in_err-image.field-0.0
-    (record { tabled = c.in_ok-table.ensures.table; without_messages = c.in_ok-table.ensures.empty }) c.in_err-image.ensures.refused)
+    (record { tabled = c.in_ok-table.ensures.table; shallow = c.in_ok-table.ensures.shallow }) c.in_err-image.ensures.refused)
 
 pub returns-in_err-schedule-clause-refused : goal.returns-in_err-schedule-clause-refused
 returns-in_err-schedule-clause-refused c =
@@ -30,7 +30,7 @@ returns-in_err-schedule-clause-refused c =
     c.from_residual-in_err-schedule.ensures.1
     (schedule-fails c.args.replay parts c.in_ok-table.table c.in_ok-image.image c.in_ok-script.script c.in_err-schedule.field-0.0
     (record {
-      readable = record { tabled = c.in_ok-table.ensures.table; without_messages = c.in_ok-table.ensures.empty };
+      readable = record { tabled = c.in_ok-table.ensures.table; shallow = c.in_ok-table.ensures.shallow };
       coded = c.in_ok-image.ensures.image;
       entries = c.in_ok-image.ensures.entries;
     })

@@ -1,4 +1,4 @@
-use Rattle.std.proofs.Common.{◌≡◌, ◌≤◌, length, sum_by, take, take_all, subst, ap, sym, arith}
+use Rattle.std.proofs.Common.{◌≡◌, ◌≤◌, length, sum_by, take, take_all, ap, arith}
 use Rattle.em_base.specs.Tables.{releases_of}
 use Rattle.em_kernel.proofs.EventCounts.{events-few}
 use Rattle.em_kernel.proofs.events.most_events.Goals as goal

@@ -55,7 +55,7 @@ returns-in-Ended-clause-run g c =
       schedule_is =
           finish_is app _ _ _ t come.count counting.sights (sight_of c.step-did.result c.step-did.new.self) _ counting.many
           (c.finish.ensures.schedule app (counting.sights ++ sight_of c.step-did.result c.step-did.new.self ∷ []) _ (c.see.ensures.stands app counting.sights counting.stands)
-          c.requires.app.table c.requires.messages c.requires.hints
+          c.requires.app.table c.requires.hints
           (seen_more app _ _ _ _ t come counting.sights c.step-did.result c.step-did.new.self counting.many counting.seen did.1 did.0))
           ends;
       lines_are = c.in_ok-put_line.ensures ∙ ap (λ d. c.steps.lines ++ option_list d.line) did.1 ∙ ends.lines_are;

@@ -50,6 +50,7 @@ returns-in-Ok-clause-agrees g c = λ ended.
       first = c.same_trace.ensures.events;
       rises = c.same_trace.ensures.rises;
       valid = c.valid_schedule.ensures;
+      whole = c.whole_reads.ensures;
       replays = c.replayable.ensures.app;
     } in
     let found = written laws _ _ _ _ _ _ ended c.decide-due.ensures.due in (
@@ -60,4 +61,27 @@ returns-in-Ok-clause-agrees g c = λ ended.
       found.read_are,
       subst (Wrote (g.K.Sink.written c.args.out.now) (g.K.Sink.written c.write_all.new.out)) c.as_bytes.ensures c.in-Ok.ensures.all,
       found.agrees,
+    )
+
+pub returns-in-Ok-clause-reads : goal.returns-in-Ok-clause-reads
+returns-in-Ok-clause-reads g c = λ ended.
+    let laws : RunLaws = record {
+      table = c.sound_application.ensures.table;
+      script = c.sound_application.ensures.script;
+      words = c.sound_application.ensures.words;
+      trace = c.same_trace.ensures.trace;
+      first = c.same_trace.ensures.events;
+      rises = c.same_trace.ensures.rises;
+      valid = c.valid_schedule.ensures;
+      whole = c.whole_reads.ensures;
+      replays = c.replayable.ensures.app;
+    } in
+    let found = written laws _ _ _ _ _ _ ended c.decide-due.ensures.due in (
+      found.command,
+      found.bytes,
+      text_bytes c.decide-due.result.text,
+      found.words_are,
+      found.read_are,
+      subst (Wrote (g.K.Sink.written c.args.out.now) (g.K.Sink.written c.write_all.new.out)) c.as_bytes.ensures c.in-Ok.ensures.all,
+      found.reads,
     )

@@ -12,7 +12,7 @@ use Rattle.em_kernel.proofs.kernel.Kernel.step.Goals as goal
 pub run-requires-clause-selected : goal.run-requires-clause-selected
 run-requires-clause-selected g c =
     subst (λ (k : Kept). selected (scene_in k.app.table.tasks (tasks_of k.threads) (promises_of k.threads) k.owners) ≡ Some c.in-Some-selected.t.0) c.self.view_is
-    (sym c.self.invariant.selects ∙ search rules)
+    (sym c.self.invariant.0.selects ∙ search rules)
 
 pub returns-in-Some-clause-step : goal.returns-in-Some-clause-step
 returns-in-Some-clause-step g c = λ s st.
@@ -47,7 +47,7 @@ returns-in-Some-selected-clause-step g c = λ s st.
     let none : due kept.clock kept.left ≡ None = sym c.due.ensures ∙ search rules in
     let found : selected (scene_in kept.app.table.tasks (tasks_of kept.threads) (promises_of kept.threads) kept.owners) ≡ Some c.in-Some-selected.t.0 =
     subst (λ (k : Kept). selected (scene_in k.app.table.tasks (tasks_of k.threads) (promises_of k.threads) k.owners) ≡ Some c.in-Some-selected.t.0) c.self.view_is
-    (sym c.self.invariant.selects ∙ search rules) in
+    (sym c.self.invariant.0.selects ∙ search rules) in
     subst (λ (step : Step). Stands c.run.new.self seen_after step.state × (c.run.result ≡ step.did))
     (sym (step_runs kept seen s c.in-Some-selected.t st early short none found)) (c.run.ensures.step s st)
 
@@ -63,6 +63,6 @@ returns-in-None-clause-step g c = λ s st.
     let none : due kept.clock kept.left ≡ None = sym c.due.ensures ∙ search rules in
     let found : selected (scene_in kept.app.table.tasks (tasks_of kept.threads) (promises_of kept.threads) kept.owners) ≡ None =
     subst (λ (k : Kept). selected (scene_in k.app.table.tasks (tasks_of k.threads) (promises_of k.threads) k.owners) ≡ None) c.self.view_is
-    (sym c.self.invariant.selects ∙ search rules) in
+    (sym c.self.invariant.0.selects ∙ search rules) in
     subst (λ (step : Step). Stands c.wait.new.self seen step.state × (c.wait.result ≡ step.did))
     (sym (step_waits kept seen s st early short none found)) (c.wait.ensures.step s seen st)

@@ -1,6 +1,7 @@
 use Rattle.std.proofs.Common.{rules, drop_of_length-le, ◌≡◌, ◌∙◌, ◌<◌, ◌≤◌, ◌+◌, suc, List, ◌∷◌, drop, length, sym, ap, subst, refl, arith}
 use Rattle.std.proofs.Math.Seq.{drop-cons}
 use Rattle.em_base.specs.declared.events.Timed.{Timed}
+use Rattle.em_kernel.specs.Copyings.{copies_of}
 use Rattle.em_kernel.specs.Kept.{Kept, Stands}
 use Rattle.em_kernel.proofs.Kernels.{sound_more}
 use Rattle.em_kernel.proofs.Steps.{rests, idles}
@@ -23,23 +24,25 @@ invariant_of-self c =
     subst (λ k. k.clock < event.time) (sym c.self.view_is)
     (c.requires.later event (drop (suc c.self.inside.at) c.self.inside.events.items) (ap (λ k. k.left) (sym c.self.view_is) ∙ here)) in
     let timely : event.time < c.self.inside.system.app.table.horizon =
-    subst (λ e. e.time < c.self.inside.system.app.table.horizon) (sym c.index.ensures) (c.self.invariant.timely c.self.inside.at event inside) in
-    let k = c.self.invariant in
-    record {
-      charged = k.charged;
-      cheap = k.cheap;
-      horizon = k.horizon;
-      within = k.within;
-      few = k.few;
-      timely = k.timely;
-      possible = k.possible;
-      selects = k.selects;
-      runs = k.runs;
-      sound = sound_more (c.self.inside.at + c.self.inside.meter.clock) (c.self.inside.at + event.time) _ (omega (arith, late)) k.sound;
-      early = omega (arith, timely, k.horizon);
-      short = k.short;
-      switched = omega (arith, k.switched, late);
-    }
+    subst (λ e. e.time < c.self.inside.system.app.table.horizon) (sym c.index.ensures) (c.self.invariant.0.timely c.self.inside.at event inside) in
+    let k = c.self.invariant.0 in (
+      record {
+        charged = k.charged;
+        cheap = k.cheap;
+        horizon = k.horizon;
+        within = k.within;
+        few = k.few;
+        timely = k.timely;
+        possible = k.possible;
+        selects = k.selects;
+        runs = k.runs;
+        sound = sound_more (c.self.inside.at + c.self.inside.meter.clock) (c.self.inside.at + event.time) _ (omega (arith, late)) k.sound;
+        early = omega (arith, timely, k.horizon);
+        short = k.short;
+        switched = omega (arith, k.switched, late);
+      },
+      c.self.invariant.1,
+    )
 
 pub returns-clause-step : goal.returns-clause-step
 returns-clause-step c = λ s places st.
@@ -53,6 +56,8 @@ returns-clause-step c = λ s places st.
       threads = c.self.inside.system.threads;
       owners = c.self.inside.system.owners;
       shared = c.self.inside.system.shared;
+      buffers = c.self.inside.buffers.items;
+      copies = copies_of c.self.inside.copies.items;
       left = drop c.self.inside.at c.self.inside.events.items;
       clock = c.self.inside.meter.clock;
       current = c.self.inside.meter.current;

@@ -1,8 +1,9 @@
-use Rattle.std.proofs.Common.{◌+◌, ◌<◌, [], All, length, sym, subst, arith}
+use Rattle.std.proofs.Common.{◌∙◌, ◌+◌, ◌<◌, [], All, length, sym, ap, subst, arith}
 use Rattle.em_gate.specs.State.{Plain, Task}
 use Rattle.em_system.specs.Held.{promises_of, tasks_of}
 use Rattle.em_system.specs.Possible.{IsPossible}
 use Rattle.em_system.specs.Sound.{IsSound}
+use Rattle.em_system.proofs.Owns.{own_at, own_given}
 use Rattle.em_system.proofs.Parts.{plain_holds, plain_of}
 use Rattle.em_system.proofs.Scenes.{task_here}
 use Rattle.em_system.proofs.Sound.{sound_anywhere, sound_given}
@@ -31,3 +32,10 @@ returns-in-Release-clause-sound g c = λ n sound.
     let did = c.release_job.ensures.step before (promises_of held.threads) (plain_holds held []) in
     let early = (subst (IsPossible (length held.app.table.tasks)) c.in-Release.is c.requires.possible).1 in
     subst (All (IsSound (n + 1))) (sym did.0.tasks) (sound_given c.in-Release.task.0 c.in-Release.time c.in-Release.word before n early sound)
+
+pub returns-in-Release-clause-windows : goal.returns-in-Release-clause-windows
+returns-in-Release-clause-windows g c = λ u.
+    let held = c.args.self.now in
+    let before : Plain = plain_of held [] in
+    let did = c.release_job.ensures.step before (promises_of held.threads) (plain_holds held []) in
+    ap (λ tasks. own_at tasks u) did.0.tasks ∙ own_given c.in-Release.task.0 c.in-Release.time c.in-Release.word before u

@@ -1,11 +1,11 @@
-use Rattle.std.proofs.Common.{rules, ◌≡◌, ◌∙◌, List, length, map, All, sym, ap, subst, refl}
+use Rattle.std.proofs.Common.{rules, ◌≡◌, ◌∙◌, List, length, map, slice_index_or, All, sym, ap, subst, refl}
 use Rattle.std.proofs.lemmas.List.{length-map}
 use Rattle.std.proofs.lemmas.List.Elements.{All-map}
 use Rattle.em_base.specs.declared.apps.App.{App}
 use Rattle.em_base.specs.declared.tables.TaskRow.{TaskRow}
 use Rattle.em_threads.specs.Threads.{first_thread}
 use Rattle.em_system.specs.Standings.{ranks_of}
-use Rattle.em_system.proofs.Holding.{IsBare}
+use Rattle.em_system.proofs.Holding.{HasOwn, IsBare, first_own}
 use Rattle.em_system.proofs.system.System.new.Goals as goal
 
 pub invariant_of-result : goal.invariant_of-result
@@ -19,7 +19,6 @@ invariant_of-result c =
     let semaphores : length c.in_ok-vec-2.field-0.items ≡ app.table.semaphores = search rules in
     record {
       whole = c.requires.app;
-      messages = c.requires.messages;
       hints = c.requires.hints;
       ranked = ranked;
       seen = seen;
@@ -27,4 +26,6 @@ invariant_of-result c =
       semaphores = semaphores;
       based = ap (λ window. window.base) c.in_ok-new-2.ensures;
       bare = subst (λ ts. All IsBare ts) (sym threads) (All-map IsBare (first_thread app.table.own app.image.labels) rows (λ i d less. (refl, refl)));
+      windows = subst (λ ts. All (HasOwn app.table.own) ts) (sym threads)
+          (All-map (HasOwn app.table.own) (first_thread app.table.own app.image.labels) rows (λ i d less. first_own app.table.own app.image.labels (slice_index_or rows i d)));
     }
