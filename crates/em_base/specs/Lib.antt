@@ -6,4 +6,5 @@ pub mod Tables
 pub mod Events
 pub mod Keys
 pub mod Selection
+pub mod Hints
 pub mod Apps

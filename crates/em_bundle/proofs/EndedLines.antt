@@ -190,7 +190,7 @@ last-ended front last = by_feed (is_feed last) refl
         }
 
 -- there are no bytes, or a last one and those before it
-some-last : (bytes : List ℕ) → (bytes ≡ []) ⊎ ((front : List ℕ) × (last : ℕ) × (bytes ≡ front ++ last ∷ []))
+pub some-last : (bytes : List ℕ) → (bytes ≡ []) ⊎ ((front : List ℕ) × (last : ℕ) × (bytes ≡ front ++ last ∷ []))
 some-last [] = inl refl
 some-last (x ∷ xs) = elim (some-last xs) [
   | inl none ↦ inr ([], x, ap (λ t. x ∷ t) none)

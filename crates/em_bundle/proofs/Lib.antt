@@ -13,3 +13,11 @@ pub mod PartsBehind
 pub mod ScheduleBytes
 pub mod ScheduleBehind
 pub mod DeepBuffers
+pub mod WaitStatements
+pub mod WaitPlaces
+pub mod WaitParts
+pub mod WaitTexts
+pub mod WaitReturns
+pub mod CodeLines
+pub mod WaitNumbers
+pub mod WaitLines

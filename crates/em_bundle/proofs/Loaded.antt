@@ -13,8 +13,9 @@ use Rattle.em_base.specs.declared.tables.Table.{Table}
 use Rattle.em_script.specs.Script.{IsScriptFail}
 use Rattle.em_trace.specs.ScheduleFaults.{IsScheduleFail}
 use Rattle.em_trace.specs.Schedules.{IsSchedule}
-use Rattle.em_bundle.specs.Application.{IsApplicationFor, IsAssembled, IsBundleFail, IsPartsFail, IsImageFail, IsReadable, IsBundleRefusedFor, IsScheduled, IsScripted, IsTableFail}
-use Rattle.em_bundle.specs.Code.{AreUnhinted}
+use Rattle.em_hint.specs.Hints.{IsHintFail}
+use Rattle.em_hint.specs.Lines.{HaveWaitLines}
+use Rattle.em_bundle.specs.Application.{AreRightIn, IsApplicationFor, IsAssembled, IsBundleFail, IsPartsFail, IsImageFail, IsReadable, IsBundleRefusedFor, IsScheduled, IsScripted, IsTableFail}
 use Rattle.em_bundle.specs.Parts.{IsCut, PartLines, parts_of}
 
 pub table-fails : (replay : Bool) (parts : PartLines) (fail : Fail) → IsTableFail parts fail → IsPartsFail replay parts fail
@@ -26,26 +27,32 @@ pub image-fails : (replay : Bool) (parts : PartLines) (table : Table) (fail : Fa
 image-fails replay parts table NoMemory readable h = tt
 image-fails replay parts table (Refused refusal) readable h = elim (h readable) [
   | inl uncoded ↦ inr (inr (inl uncoded))
-  | inr later ↦ elim later [ inl entry ↦ inr (inr (inr (inl entry))) | inr hint ↦ inr (inr (inr (inr (inl hint)))) ]
+  | inr entry ↦ inr (inr (inr (inl entry)))
 ]
 
-pub script-fails : (replay : Bool) (parts : PartLines) (table : Table) (image : Image) (fail : Fail) → IsAssembled parts table image → AreUnhinted image.waits
+pub hints-fail : (replay : Bool) (parts : PartLines) (table : Table) (image : Image) (fail : Fail) → IsAssembled parts table image
+    → IsHintFail image table.semaphores table.own fail → IsPartsFail replay parts fail
+hints-fail replay parts table image NoMemory assembled h = tt
+hints-fail replay parts table image (Refused refusal) assembled h =
+    inr (inr (inr (inr (inl (record { table = table; image = image; assembled = assembled; refused = h })))))
+
+pub script-fails : (replay : Bool) (parts : PartLines) (table : Table) (image : Image) (fail : Fail) → IsAssembled parts table image → AreRightIn table image
     → IsScriptFail (parts.script_line + 1) table.tasks parts.script fail → IsPartsFail replay parts fail
-script-fails replay parts table image NoMemory assembled unhinted h = tt
-script-fails replay parts table image (Refused refusal) assembled unhinted h =
-    inr (inr (inr (inr (inr (inl (record { table = table; image = image; assembled = assembled; unhinted = unhinted; refused = h }))))))
+script-fails replay parts table image NoMemory assembled right h = tt
+script-fails replay parts table image (Refused refusal) assembled right h =
+    inr (inr (inr (inr (inr (inl (record { table = table; image = image; assembled = assembled; right = right; refused = h }))))))
 
 pub schedule-fails : (replay : Bool) (parts : PartLines) (table : Table) (image : Image) (events : List Timed) (fail : Fail) → IsAssembled parts table image
-    → AreUnhinted image.waits → IsScripted parts table events
+    → AreRightIn table image → IsScripted parts table events
     → (replay ≡ true) × IsScheduleFail (parts.schedule_line + 1) (length table.tasks) parts.schedule fail → IsPartsFail replay parts fail
-schedule-fails replay parts table image events NoMemory assembled unhinted scripted h = tt
-schedule-fails replay parts table image events (Refused refusal) assembled unhinted scripted h =
+schedule-fails replay parts table image events NoMemory assembled right scripted h = tt
+schedule-fails replay parts table image events (Refused refusal) assembled right scripted h =
     inr (inr (inr (inr (inr (inr (record {
       replayed = h.0;
       table = table;
       image = image;
       assembled = assembled;
-      unhinted = unhinted;
+      right = right;
       events = events;
       scripted = scripted;
       refused = h.1;
@@ -99,3 +106,10 @@ pub schedules : (replay : Bool) (bytes : List ℕ) (result : Result App Fail) �
     → IfOk result (λ app. IfSome app.schedule (IsSchedule (length app.table.tasks)))
 schedules replay bytes (Err fail) h = tt
 schedules replay bytes (Ok app) h = valid-schedule replay (parts_of (lines bytes)) app.table app.schedule h.stands.schedule
+
+-- each `waitjob` has its line
+pub waits_found : (replay : Bool) (bytes : List ℕ) (result : Result App Fail)
+    → ((app : App) → IsApplicationFor replay bytes app → HaveWaitLines (app.code_line + 1) (lines app.code_text) app.image.waits)
+    → IfOk result (IsApplicationFor replay bytes) → IfOk result (λ app. HaveWaitLines (app.code_line + 1) (lines app.code_text) app.image.waits)
+waits_found replay bytes (Err fail) found h = tt
+waits_found replay bytes (Ok app) found h = found app h

@@ -10,18 +10,17 @@ use Rattle.std.specs.Str.{IsUtf8, IsValidUpTo, bytes_eq}
 use Rattle.std.specs.Str.Lines.{lines}
 use Rattle.toml.specs.Data.{Members}
 use Rattle.toml.specs.Parse.{parse_document}
-use Rattle.em_base.proofs.FirstFaults.{clear_or_refused}
 use Rattle.em_base.specs.declared.apps.App.{App}
 use Rattle.em_base.specs.declared.apps.HintMap.{HintMap}
 use Rattle.em_base.specs.declared.events.Schedule.{Schedule}
 use Rattle.em_base.specs.declared.events.Timed.{Timed}
+use Rattle.em_base.specs.declared.ids.SemId.{SemId}
 use Rattle.em_base.specs.declared.images.Image.{Image}
 use Rattle.em_base.specs.declared.images.Wait.{Wait}
 use Rattle.em_base.specs.declared.refusals.Refusal.{Refusal}
 use Rattle.em_base.specs.declared.tables.Table.{Table}
 use Rattle.em_base.specs.declared.tables.TaskRow.{TaskRow}
 use Rattle.em_base.specs.Apps.{have_entries}
-use Rattle.em_base.specs.FirstFault.{by_test}
 use Rattle.em_asm_read.specs.declared.items.Line.{Line}
 use Rattle.em_asm_read.specs.Lines.{IsFaulty, IsLine}
 use Rattle.em_asm.specs.Image.{IsImageOf, IsAssemblyRefused}
@@ -30,13 +29,13 @@ use Rattle.em_table.specs.Tests.{fault_of, table_of}
 use Rattle.em_script.specs.Script.{IsScriptOf, IsScriptRefused}
 use Rattle.em_trace.specs.ScheduleFaults.{IsScheduleRefused}
 use Rattle.em_trace.specs.Schedules.{IsScheduleOf}
-use Rattle.em_bundle.specs.Application.{HasDeepBuffer, IsApplicationFor, IsApplicationOf, IsBundleRefusedFor, IsRefusedOf, IsScheduled, IsTabled, IsUntabled}
-use Rattle.em_bundle.specs.Code.{AllSay, AreUnhinted, IsCodeOf, IsCodeRefused, IsHinted, IsMisread, hint_fault, line_of_wait, lines_in, number_in, statements_of}
-use Rattle.em_bundle.specs.Faults.{code_of}
+use Rattle.em_hint.specs.Hints.{AreHintsOf, AreRight, IsMishinted}
+use Rattle.em_bundle.specs.Application.{AreHintsIn, AreRightIn, HasDeepBuffer, IsApplicationFor, IsApplicationOf, IsBundleRefusedFor, IsRefusedOf, IsScheduled, IsTabled, IsUntabled}
+use Rattle.em_bundle.specs.Code.{AllSay, IsCodeOf, IsCodeRefused, IsMisread, lines_in, number_in, statements_of}
 use Rattle.em_bundle.specs.Parts.{AreFirst, IsCut, IsShort, IsUncut, PartLines, headers, headers_in, is_header, line_at, parts_of, text_of}
 use Rattle.em_bundle.proofs.DeepBuffers.{deep_not_shallow}
 
--- what holds of the lines of assembly, of the images of statements, of scripts and of schedules
+-- what holds of the lines of assembly, of the images of statements, of hints, of scripts and of schedules
 pub record Laws : Type 0 where
   pub line_or_fault : (text : List ℕ) → ((line : Line) × IsLine text line) ⊎ ((code : ℕ) × IsFaulty text code)
   pub one_line : (text : List ℕ) (one other : Line) → IsLine text one → IsLine text other → one ≡ other
@@ -49,6 +48,15 @@ pub record Laws : Type 0 where
       → IsAssemblyRefused number lines one → IsAssemblyRefused number lines other → one ≡ other
   pub image_not_refusal : (number : ℕ → ℕ) (lines : List Line) (image : Image) (refusal : Refusal)
       → IsImageOf number lines image → IsAssemblyRefused number lines refusal → ⊥
+  pub some_hints : (code : List ℕ) (sems own : ℕ) (waits : List Wait) → (hints : List (ℕ × SemId)) × AreHintsOf code sems own waits hints
+  pub one_hints : (code : List ℕ) (sems own : ℕ) (waits : List Wait) (one other : List (ℕ × SemId))
+      → AreHintsOf code sems own waits one → AreHintsOf code sems own waits other → one ≡ other
+  pub right_or_refusal : (code : List ℕ) (sems own : ℕ) (waits : List Wait)
+      → AreRight code sems own waits ⊎ ((refusal : Refusal) × IsMishinted code sems own waits refusal)
+  pub one_hint_refusal : (code : List ℕ) (sems own : ℕ) (waits : List Wait) (one other : Refusal)
+      → IsMishinted code sems own waits one → IsMishinted code sems own waits other → one ≡ other
+  pub right_not_refusal : (code : List ℕ) (sems own : ℕ) (waits : List Wait) (refusal : Refusal)
+      → AreRight code sems own waits → IsMishinted code sems own waits refusal → ⊥
   pub script_or_refusal : (first : ℕ) (rows : List TaskRow) (lines : List (List ℕ))
       → ((events : List Timed) × IsScriptOf rows lines events) ⊎ ((refusal : Refusal) × IsScriptRefused first rows lines refusal)
   pub one_script : (rows : List TaskRow) (lines : List (List ℕ)) (one other : List Timed)
@@ -164,9 +172,18 @@ code_not_refusal laws first texts image refusal c (inr none) =
     (subst (λ items. IsAssemblyRefused (number_in (statements_of first items)) (lines_in (statements_of first items)) refusal)
     (same_items laws texts none.items c.items none.read c.read) none.refused)
 
--- code without hints isn't refused for a hint
-pub unhinted_not_hinted : (waits : List Wait) (refusal : Refusal) → AreUnhinted waits → IsHinted waits refusal → ⊥
-unhinted_not_hinted waits refusal clear named = clear_or_refused (by_test hint_fault) code_of (line_of_wait waits) waits refusal clear named
+-- the hints of one table and one image are those of the same
+pub same_mishinted : (table table' : Table) (image image' : Image) (refusal : Refusal) → table ≡ table' → image ≡ image'
+    → IsMishinted image.words table.semaphores table.own image.waits refusal → IsMishinted image'.words table'.semaphores table'.own image'.waits refusal
+same_mishinted table table' image image' refusal t i h =
+    subst (λ it. IsMishinted image'.words it.semaphores it.own image'.waits refusal) t
+    (subst (λ it. IsMishinted it.words table.semaphores table.own it.waits refusal) i h)
+
+-- hints that are right aren't refused
+pub right_not_wrong : Laws → (table table' : Table) (image image' : Image) (refusal : Refusal) → table ≡ table' → image ≡ image' → AreRightIn table' image'
+    → IsMishinted image.words table.semaphores table.own image.waits refusal → ⊥
+right_not_wrong laws table table' image image' refusal t i right wrong =
+    laws.right_not_refusal image'.words table'.semaphores table'.own image'.waits refusal right (same_mishinted table table' image image' refusal t i wrong)
 
 -- ---- the schedule
 
@@ -200,7 +217,8 @@ parts_not_refused laws replay parts app refusal a (inr (inr (inr (inl e)))) =
     (ap (λ i. have_entries i app.table.tasks) (sym image) ∙ (ap (λ t. have_entries e.image t.tasks) (sym table) ∙ e.entries)) a.entries
 parts_not_refused laws replay parts app refusal a (inr (inr (inr (inr (inl h))))) =
     let image = one_code laws (parts.code_line + 1) parts.code h.image app.image h.assembled.coded a.code in
-    unhinted_not_hinted app.image.waits refusal a.unhinted (subst (λ i. IsHinted i.waits refusal) image h.hinted)
+    let table = one_table parts h.table app.table h.assembled.readable.tabled a.table in
+    right_not_wrong laws h.table app.table h.image app.image refusal table image a.right h.refused
 parts_not_refused laws replay parts app refusal a (inr (inr (inr (inr (inr (inl s)))))) =
     let table = one_table parts s.table app.table s.assembled.readable.tabled a.table in
     laws.script_not_refusal (parts.script_line + 1) app.table.tasks parts.script app.script refusal a.script
@@ -234,9 +252,12 @@ same_hints one other e = ap (λ hints. (let m : HintMap = record { hints = hints
 parts_once : Laws → (replay : Bool) (parts : PartLines) (one other : App) → IsApplicationOf replay parts one → IsApplicationOf replay parts other → one ≡ other
 parts_once laws replay parts one other a b =
     let table = one_table parts one.table other.table a.table b.table in
-    same_app table (a.code_text ∙ sym b.code_text) (a.code_line ∙ sym b.code_line)
-    (one_code laws (parts.code_line + 1) parts.code one.image other.image a.code b.code)
-    (same_hints one.hints other.hints (a.hints ∙ sym b.hints))
+    let image = one_code laws (parts.code_line + 1) parts.code one.image other.image a.code b.code in
+    let hints =
+    laws.one_hints other.image.words other.table.semaphores other.table.own other.image.waits one.hints.hints other.hints.hints
+    (subst (λ t. AreHintsIn t other.image one.hints) table (subst (λ i. AreHintsIn one.table i one.hints) image a.hints)) b.hints in
+    same_app table (a.code_text ∙ sym b.code_text) (a.code_line ∙ sym b.code_line) image
+    (same_hints one.hints other.hints hints)
     (laws.one_script other.table.tasks parts.script one.script other.script (subst (λ t. IsScriptOf t.tasks parts.script one.script) table a.script) b.script)
     (one_scheduled laws replay parts other.table one.schedule other.schedule (subst (λ t. IsScheduled replay parts t one.schedule) table a.schedule) b.schedule)
 

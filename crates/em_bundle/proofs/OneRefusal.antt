@@ -3,23 +3,21 @@ use Rattle.std.proofs.Common.{◌≡◌, ◌∙◌, ℕ, ◌+◌, ◌<◌, ◌�
 use Rattle.std.proofs.lemmas.List.{length-take-le, get_or-take, take-take}
 use Rattle.std.specs.Str.{bytes_eq}
 use Rattle.std.specs.Str.Lines.{lines}
-use Rattle.em_base.proofs.FirstFaults.{one_found, one_place, one_refusal as one_first_refusal}
+use Rattle.em_base.proofs.FirstFaults.{one_place, one_refusal as one_first_refusal}
 use Rattle.em_base.specs.declared.images.Image.{Image}
-use Rattle.em_base.specs.declared.images.Wait.{Wait}
 use Rattle.em_base.specs.declared.refusals.Refusal.{Refusal}
 use Rattle.em_base.specs.declared.tables.Table.{Table}
 use Rattle.em_base.specs.Apps.{have_entries}
-use Rattle.em_base.specs.FirstFault.{by_test}
 use Rattle.em_asm.specs.Image.{IsAssemblyRefused}
 use Rattle.em_script.specs.Script.{IsScriptRefused}
 use Rattle.em_trace.specs.ScheduleFaults.{IsScheduleRefused}
 use Rattle.em_bundle.specs.declared.faults.Fault.TheVariants.{MisplacedHeader, NotUtf8}
-use Rattle.em_bundle.specs.Application.{HasDeepBuffer, HasHint, HasNoEntry, IsAssembled, IsBroken, IsCoded, IsReadable, IsBundleRefusedFor, IsRefusedLines, IsRefusedOf, IsTabled, IsTooDeep, IsUncoded, IsUnscheduled, IsUnscripted, IsUntabled}
-use Rattle.em_bundle.specs.Code.{AreUnhinted, HasNoImage, IsCodeRefused, IsFaultyText, IsHinted, IsMisread, hint_fault, line_of_wait, lines_in, number_in, statements_of}
-use Rattle.em_bundle.specs.Faults.{code_of, refusal_at}
+use Rattle.em_bundle.specs.Application.{AreRightIn, HasDeepBuffer, HasNoEntry, IsAssembled, IsBroken, IsCoded, IsHintWrong, IsReadable, IsBundleRefusedFor, IsRefusedLines, IsRefusedOf, IsTabled, IsTooDeep, IsUncoded, IsUnscheduled, IsUnscripted, IsUntabled}
+use Rattle.em_bundle.specs.Code.{HasNoImage, IsCodeRefused, IsFaultyText, IsMisread, lines_in, number_in, statements_of}
+use Rattle.em_bundle.specs.Faults.{refusal_at}
 use Rattle.em_bundle.specs.Parts.{AreFirst, IsHeadless, IsMisplaced, IsShort, IsUncut, PartLines, headers, is_header, line_at, parts_of}
 use Rattle.em_bundle.proofs.DeepBuffers.{deep_not_shallow}
-use Rattle.em_bundle.proofs.OneApplication.{Laws, code_not_refusal, cut_not_uncut, items_not_misread, not_misplaced, one_answer, one_code, one_table, same_items, table_not_refusal, unhinted_not_hinted, utf8_not_broken}
+use Rattle.em_bundle.proofs.OneApplication.{Laws, code_not_refusal, cut_not_uncut, items_not_misread, not_misplaced, one_answer, one_code, one_table, same_items, right_not_wrong, same_mishinted, table_not_refusal, utf8_not_broken}
 
 -- two kinds of refusal, of which the later stands only where the first doesn't
 first_or_later : {A B : Refusal → Type 0} → ((a b : Refusal) → A a → A b → a ≡ b) → ((a b : Refusal) → A a → B b → ⊥) → ((a b : Refusal) → B a → B b → a ≡ b)
@@ -104,13 +102,12 @@ uncoded_once laws parts a b h k = code_once laws (parts.code_line + 1) parts.cod
 entry_once : (parts : PartLines) (a b : Refusal) → HasNoEntry parts a → HasNoEntry parts b → a ≡ b
 entry_once parts a b h k = h.named ∙ sym k.named
 
-hinted_once : (waits : List Wait) (a b : Refusal) → IsHinted waits a → IsHinted waits b → a ≡ b
-hinted_once waits a b h k = one_first_refusal (by_test hint_fault) code_of (line_of_wait waits) waits a b (one_found hint_fault) h k
-
-hint_once : Laws → (parts : PartLines) (a b : Refusal) → HasHint parts a → HasHint parts b → a ≡ b
+hint_once : Laws → (parts : PartLines) (a b : Refusal) → IsHintWrong parts a → IsHintWrong parts b → a ≡ b
 hint_once laws parts a b h k =
     let image = one_code laws (parts.code_line + 1) parts.code h.image k.image h.assembled.coded k.assembled.coded in
-    hinted_once k.image.waits a b (subst (λ i. IsHinted i.waits a) image h.hinted) k.hinted
+    let table = one_table parts h.table k.table h.assembled.readable.tabled k.assembled.readable.tabled in
+    laws.one_hint_refusal k.image.words k.table.semaphores k.table.own k.image.waits a b
+    (same_mishinted h.table k.table h.image k.image a table image h.refused) k.refused
 
 -- ---- the script
 
@@ -140,22 +137,23 @@ script_not_schedule laws replay parts a b h k =
 abbrev IsLate : Bool → PartLines → Refusal → Type 0
 IsLate replay parts refusal = IsUnscripted parts refusal ⊎ IsUnscheduled replay parts refusal
 
--- no `waitjob` has a semaphore beside it
-unhinted : (replay : Bool) (parts : PartLines) (refusal : Refusal) → IsLate replay parts refusal
-    → (table : Table) × (image : Image) × IsAssembled parts table image × AreUnhinted image.waits
-unhinted replay parts refusal (inl s) = (s.table, s.image, s.assembled, s.unhinted)
-unhinted replay parts refusal (inr s) = (s.table, s.image, s.assembled, s.unhinted)
+-- no hint is written wrong
+right : (replay : Bool) (parts : PartLines) (refusal : Refusal) → IsLate replay parts refusal
+    → (table : Table) × (image : Image) × IsAssembled parts table image × AreRightIn table image
+right replay parts refusal (inl s) = (s.table, s.image, s.assembled, s.right)
+right replay parts refusal (inr s) = (s.table, s.image, s.assembled, s.right)
 
 -- the code is assembled, and each task has its entry
-assembled : (replay : Bool) (parts : PartLines) (refusal : Refusal) → HasHint parts refusal ⊎ IsLate replay parts refusal → (table : Table) × (image : Image) × IsAssembled parts table image
+assembled : (replay : Bool) (parts : PartLines) (refusal : Refusal) → IsHintWrong parts refusal ⊎ IsLate replay parts refusal → (table : Table) × (image : Image) × IsAssembled parts table image
 assembled replay parts refusal (inl h) = (h.table, h.image, h.assembled)
-assembled replay parts refusal (inr late) = let l = unhinted replay parts refusal late in (l.0, l.1, l.2)
+assembled replay parts refusal (inr late) = let l = right replay parts refusal late in (l.0, l.1, l.2)
 
-hint_not_late : Laws → (replay : Bool) (parts : PartLines) (a b : Refusal) → HasHint parts a → IsLate replay parts b → ⊥
+hint_not_late : Laws → (replay : Bool) (parts : PartLines) (a b : Refusal) → IsHintWrong parts a → IsLate replay parts b → ⊥
 hint_not_late laws replay parts a b h k =
-    let l = unhinted replay parts b k in
+    let l = right replay parts b k in
     let image = one_code laws (parts.code_line + 1) parts.code h.image l.1 h.assembled.coded l.2.coded in
-    unhinted_not_hinted l.1.waits a l.3 (subst (λ i. IsHinted i.waits a) image h.hinted)
+    let table = one_table parts h.table l.0 h.assembled.readable.tabled l.2.readable.tabled in
+    right_not_wrong laws h.table l.0 h.image l.1 a table image l.3 h.refused
 
 entry_not_assembled : Laws → (parts : PartLines) (refusal : Refusal) (table : Table) (image : Image) → HasNoEntry parts refusal → IsAssembled parts table image → ⊥
 entry_not_assembled laws parts refusal table image e l =
@@ -165,7 +163,7 @@ entry_not_assembled laws parts refusal table image e l =
     (ap (λ i. have_entries i table.tasks) (sym same_image) ∙ (ap (λ t. have_entries e.image t.tasks) (sym same_table) ∙ e.entries)) l.entries
 
 -- the code is assembled
-coded : (replay : Bool) (parts : PartLines) (refusal : Refusal) → HasNoEntry parts refusal ⊎ (HasHint parts refusal ⊎ IsLate replay parts refusal) → (image : Image) × IsCoded parts image
+coded : (replay : Bool) (parts : PartLines) (refusal : Refusal) → HasNoEntry parts refusal ⊎ (IsHintWrong parts refusal ⊎ IsLate replay parts refusal) → (image : Image) × IsCoded parts image
 coded replay parts refusal (inl e) = (e.image, e.coded)
 coded replay parts refusal (inr later) = let l = assembled replay parts refusal later in (l.1, l.2.coded)
 
@@ -173,7 +171,7 @@ uncoded_not_coded : Laws → (parts : PartLines) (refusal : Refusal) → IsUncod
 uncoded_not_coded laws parts refusal u i = code_not_refusal laws (parts.code_line + 1) parts.code i.0 refusal i.1 u.refused
 
 -- the table can be read
-readable : (replay : Bool) (parts : PartLines) (refusal : Refusal) → IsUncoded parts refusal ⊎ (HasNoEntry parts refusal ⊎ (HasHint parts refusal ⊎ IsLate replay parts refusal))
+readable : (replay : Bool) (parts : PartLines) (refusal : Refusal) → IsUncoded parts refusal ⊎ (HasNoEntry parts refusal ⊎ (IsHintWrong parts refusal ⊎ IsLate replay parts refusal))
     → (table : Table) × IsReadable parts table
 readable replay parts refusal (inl u) = (u.table, u.readable)
 readable replay parts refusal (inr (inl e)) = (e.table, e.readable)
@@ -181,7 +179,7 @@ readable replay parts refusal (inr (inr later)) = let l = assembled replay parts
 
 -- the table part is a table
 tabled : (replay : Bool) (parts : PartLines) (refusal : Refusal)
-    → IsTooDeep parts refusal ⊎ (IsUncoded parts refusal ⊎ (HasNoEntry parts refusal ⊎ (HasHint parts refusal ⊎ IsLate replay parts refusal)))
+    → IsTooDeep parts refusal ⊎ (IsUncoded parts refusal ⊎ (HasNoEntry parts refusal ⊎ (IsHintWrong parts refusal ⊎ IsLate replay parts refusal)))
     → (table : Table) × IsTabled parts table
 tabled replay parts refusal (inl m) = (m.table, m.tabled)
 tabled replay parts refusal (inr later) = let r = readable replay parts refusal later in (r.0, r.1.tabled)

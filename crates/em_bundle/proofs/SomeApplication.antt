@@ -10,16 +10,15 @@ use Rattle.std.specs.Str.{IsUtf8, is_utf8}
 use Rattle.std.specs.Str.Lines.{lines}
 use Rattle.toml.specs.Data.{Members}
 use Rattle.toml.specs.Parse.{parse_document}
-use Rattle.em_base.proofs.FirstFaults.{clear_or_first, found_or_none}
+use Rattle.em_base.proofs.FirstFaults.{clear_or_first}
 use Rattle.em_base.specs.declared.apps.App.{App}
 use Rattle.em_base.specs.declared.events.Schedule.{Schedule}
 use Rattle.em_base.specs.declared.events.Timed.{Timed}
 use Rattle.em_base.specs.declared.images.Image.{Image}
-use Rattle.em_base.specs.declared.images.Wait.{Wait}
 use Rattle.em_base.specs.declared.refusals.Refusal.{Refusal}
 use Rattle.em_base.specs.declared.tables.Table.{Table}
 use Rattle.em_base.specs.Apps.{have_entries}
-use Rattle.em_base.specs.FirstFault.{AreClear, by_test}
+use Rattle.em_base.specs.FirstFault.{AreClear}
 use Rattle.em_asm_read.specs.declared.items.Line.{Line}
 use Rattle.em_asm_read.specs.Lines.{IsFaulty}
 use Rattle.em_table.specs.declared.faults.Fault.{Fault as TableFault}
@@ -28,9 +27,9 @@ use Rattle.em_table.specs.Faults.{refusal_of}
 use Rattle.em_table.specs.Tests.{fault_in, fault_of, table_of}
 use Rattle.em_trace.specs.ScheduleFaults.{IsScheduleRefused}
 use Rattle.em_bundle.specs.declared.faults.Fault.TheVariants.{MissingEntry, NotUtf8, TooDeep}
-use Rattle.em_bundle.specs.Application.{IsApplicationFor, IsApplicationOf, IsAssembled, IsBroken, IsCoded, IsReadable, IsBundleRefusedFor, IsRefusedOf, IsScheduled, IsScripted, IsTabled, IsUntabled}
-use Rattle.em_bundle.specs.Code.{AllSay, AreUnhinted, IsCodeOf, IsCodeRefused, IsFaultyText, IsHinted, hint_fault, line_of_wait, lines_in, number_in, statements_of}
-use Rattle.em_bundle.specs.Faults.{code_of, refusal_at}
+use Rattle.em_bundle.specs.Application.{AreRightIn, IsApplicationFor, IsApplicationOf, IsAssembled, IsBroken, IsCoded, IsReadable, IsBundleRefusedFor, IsRefusedOf, IsScheduled, IsScripted, IsTabled, IsUntabled}
+use Rattle.em_bundle.specs.Code.{AllSay, IsCodeOf, IsCodeRefused, IsFaultyText, lines_in, number_in, statements_of}
+use Rattle.em_bundle.specs.Faults.{refusal_at}
 use Rattle.em_bundle.specs.Parts.{PartLines, parts_of, text_of}
 use Rattle.em_bundle.proofs.CutOrUncut.{cut_or_uncut}
 use Rattle.em_bundle.proofs.DeepBuffers.{deep_or_shallow}
@@ -129,16 +128,6 @@ code_or_refusal laws first texts = elim (clear_or_first IsFaultyText texts (leng
           | inr none ↦ inr (none.0, inr record { items = said.0; read = said.1; refused = none.1 })
         ]
 
--- code has no hint, or the refusal names the first
-unhinted_or_hinted : (waits : List Wait) → AreUnhinted waits ⊎ ((refusal : Refusal) × IsHinted waits refusal)
-unhinted_or_hinted waits = elim (clear_or_first (by_test hint_fault) waits (length waits) (found_or_none hint_fault)) [
-  | inl clear ↦ inl clear
-  | inr named ↦ inr (
-    record { code = code_of named.1; line = line_of_wait waits named.0 },
-    record { place = named.0; fault = named.1; first = named.2; coded = refl; placed = refl },
-  )
-]
-
 -- ---- the schedule
 
 -- with replay the schedule part has a schedule or a refusal, and without there is no schedule
@@ -160,36 +149,37 @@ parts_or_refusal laws replay parts = elim (table_or_refusal parts) [
   | inr u ↦ inr (u.0, inl u.1)
 ]
   where
-    answered : (table : Table) (image : Image) (events : List Timed) (schedule : Option Schedule) → IsAssembled parts table image → AreUnhinted image.waits
+    answered : (table : Table) (image : Image) (events : List Timed) (schedule : Option Schedule) → IsAssembled parts table image → AreRightIn table image
         → IsScripted parts table events → IsScheduled replay parts table schedule → (app : App) × IsApplicationOf replay parts app
-    answered table image events schedule assembled unhinted scripted scheduled = (
-      record {
-        table = table;
-        code_text = text_of parts.code;
-        code_line = parts.code_line;
-        image = image;
-        hints = record { hints = [] };
-        script = events;
-        schedule = schedule;
-      },
-      record {
-        table = assembled.readable.tabled;
-        shallow = assembled.readable.shallow;
-        code = assembled.coded;
-        entries = assembled.entries;
-        unhinted = unhinted;
-        script = scripted;
-        code_text = refl;
-        code_line = refl;
-        hints = refl;
-        schedule = scheduled;
-      },
-    )
+    answered table image events schedule assembled right scripted scheduled =
+        let found = laws.some_hints image.words table.semaphores table.own image.waits in (
+          record {
+            table = table;
+            code_text = text_of parts.code;
+            code_line = parts.code_line;
+            image = image;
+            hints = record { hints = found.0 };
+            script = events;
+            schedule = schedule;
+          },
+          record {
+            table = assembled.readable.tabled;
+            shallow = assembled.readable.shallow;
+            code = assembled.coded;
+            entries = assembled.entries;
+            right = right;
+            script = scripted;
+            code_text = refl;
+            code_line = refl;
+            hints = found.1;
+            schedule = scheduled;
+          },
+        )
 
-    by_schedule : (table : Table) (image : Image) (events : List Timed) → IsAssembled parts table image → AreUnhinted image.waits → IsScripted parts table events
+    by_schedule : (table : Table) (image : Image) (events : List Timed) → IsAssembled parts table image → AreRightIn table image → IsScripted parts table events
         → ((app : App) × IsApplicationOf replay parts app) ⊎ ((refusal : Refusal) × IsRefusedOf replay parts refusal)
-    by_schedule table image events assembled unhinted scripted = elim (scheduled_or_refused laws replay parts table) [
-      | inl schedule ↦ inl (answered table image events schedule.0 assembled unhinted scripted schedule.1)
+    by_schedule table image events assembled right scripted = elim (scheduled_or_refused laws replay parts table) [
+      | inl schedule ↦ inl (answered table image events schedule.0 assembled right scripted schedule.1)
       | inr s ↦ inr (
         s.0,
         inr (inr (inr (inr (inr (inr record {
@@ -197,7 +187,7 @@ parts_or_refusal laws replay parts = elim (table_or_refusal parts) [
           table = table;
           image = image;
           assembled = assembled;
-          unhinted = unhinted;
+          right = right;
           events = events;
           scripted = scripted;
           refused = s.2;
@@ -205,18 +195,18 @@ parts_or_refusal laws replay parts = elim (table_or_refusal parts) [
       )
     ]
 
-    by_script : (table : Table) (image : Image) → IsAssembled parts table image → AreUnhinted image.waits
+    by_script : (table : Table) (image : Image) → IsAssembled parts table image → AreRightIn table image
         → ((app : App) × IsApplicationOf replay parts app) ⊎ ((refusal : Refusal) × IsRefusedOf replay parts refusal)
-    by_script table image assembled unhinted = elim (laws.script_or_refusal (parts.script_line + 1) table.tasks parts.script) [
-      | inl events ↦ by_schedule table image events.0 assembled unhinted events.1
-      | inr s ↦ inr (s.0, inr (inr (inr (inr (inr (inl record { table = table; image = image; assembled = assembled; unhinted = unhinted; refused = s.1 }))))))
+    by_script table image assembled right = elim (laws.script_or_refusal (parts.script_line + 1) table.tasks parts.script) [
+      | inl events ↦ by_schedule table image events.0 assembled right events.1
+      | inr s ↦ inr (s.0, inr (inr (inr (inr (inr (inl record { table = table; image = image; assembled = assembled; right = right; refused = s.1 }))))))
     ]
 
     by_hints : (table : Table) (image : Image) → IsAssembled parts table image
         → ((app : App) × IsApplicationOf replay parts app) ⊎ ((refusal : Refusal) × IsRefusedOf replay parts refusal)
-    by_hints table image assembled = elim (unhinted_or_hinted image.waits) [
-      | inl unhinted ↦ by_script table image assembled unhinted
-      | inr h ↦ inr (h.0, inr (inr (inr (inr (inl record { table = table; image = image; assembled = assembled; hinted = h.1 })))))
+    by_hints table image assembled = elim (laws.right_or_refusal image.words table.semaphores table.own image.waits) [
+      | inl right ↦ by_script table image assembled right
+      | inr h ↦ inr (h.0, inr (inr (inr (inr (inl record { table = table; image = image; assembled = assembled; refused = h.1 })))))
     ]
 
     by_entries : (table : Table) (image : Image) → IsReadable parts table → IsCoded parts image → (b : Bool) → have_entries image table.tasks ≡ b

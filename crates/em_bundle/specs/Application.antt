@@ -1,11 +1,12 @@
 -- The application that the bytes of a bundle stand for, or the first thing that is wrong with them: this project's own.
-use Rattle.std.specs.Prelude.{◌≡◌, ℕ, ◌+◌, ◌<◌, ◌⊎◌, ⊤, Bool, true, false, nat_eq, List, [], length, take, count_by, Option, Some, None}
+use Rattle.std.specs.Prelude.{◌≡◌, ℕ, ◌+◌, ◌<◌, ◌⊎◌, ⊤, Bool, true, false, nat_eq, List, length, take, count_by, Option, Some, None}
 use Rattle.std.specs.Option.{option_map}
 use Rattle.std.specs.Str.{IsUtf8, IsValidUpTo}
 use Rattle.std.specs.Str.Lines.{lines}
 use Rattle.toml.specs.Data.{Members}
 use Rattle.toml.specs.Parse.{parse_document}
 use Rattle.em_base.specs.declared.apps.App.{App}
+use Rattle.em_base.specs.declared.apps.HintMap.{HintMap}
 use Rattle.em_base.specs.declared.events.Schedule.{Schedule}
 use Rattle.em_base.specs.declared.events.Timed.{Timed}
 use Rattle.em_base.specs.declared.images.Image.{Image}
@@ -19,9 +20,10 @@ use Rattle.em_table.specs.Tests.{fault_in, fault_of, table_of}
 use Rattle.em_script.specs.Script.{IsScriptOf, IsScriptRefused}
 use Rattle.em_trace.specs.ScheduleFaults.{IsScheduleRefused}
 use Rattle.em_trace.specs.Schedules.{IsScheduleOf}
+use Rattle.em_hint.specs.Hints.{AreImageHints, AreRight, IsMishinted}
 use Rattle.em_admit.specs.Depth.{AreShallow, depth, most_values}
 use Rattle.em_bundle.specs.declared.faults.Fault.TheVariants.{MissingEntry, NotUtf8, TooDeep}
-use Rattle.em_bundle.specs.Code.{AreUnhinted, IsCodeOf, IsCodeRefused, IsHinted}
+use Rattle.em_bundle.specs.Code.{IsCodeOf, IsCodeRefused}
 use Rattle.em_bundle.specs.Faults.{refusal_at}
 use Rattle.em_bundle.specs.Parts.{IsCut, IsUncut, PartLines, parts_of, text_of}
 
@@ -37,6 +39,13 @@ pub record IsTabled (parts : PartLines) (table : Table) : Type 0 where
 -- the code part has this image
 abbrev pub IsCoded : PartLines → Image → Type 0
 IsCoded parts image = IsCodeOf (parts.code_line + 1) parts.code image
+
+-- no hint is written wrong beside a `waitjob` of the image, and the map has its hints
+abbrev pub AreRightIn : Table → Image → Type 0
+AreRightIn table image = AreRight image.words table.semaphores table.own image.waits
+
+abbrev pub AreHintsIn : Table → Image → HintMap → Type 0
+AreHintsIn table image hints = AreImageHints image table.semaphores table.own hints
 
 -- the script part has these events
 abbrev pub IsScripted : PartLines → Table → List Timed → Type 0
@@ -56,11 +65,11 @@ pub record IsApplicationOf (replay : Bool) (parts : PartLines) (app : App) : Typ
   pub shallow : AreShallow app.table
   pub code : IsCoded parts app.image
   pub entries : have_entries app.image app.table.tasks ≡ true
-  pub unhinted : AreUnhinted app.image.waits
+  pub right : AreRightIn app.table app.image
   pub script : IsScripted parts app.table app.script
   pub code_text : app.code_text ≡ text_of parts.code
   pub code_line : app.code_line ≡ parts.code_line
-  pub hints : app.hints.hints ≡ []
+  pub hints : AreHintsIn app.table app.image app.hints
   pub schedule : IsScheduled replay parts app.table app.schedule
 
 -- the bytes are those of this application, with a schedule where it is to be replayed
@@ -118,19 +127,19 @@ pub record IsAssembled (parts : PartLines) (table : Table) (image : Image) : Typ
   pub coded : IsCoded parts image
   pub entries : have_entries image table.tasks ≡ true
 
--- a `waitjob` has a semaphore beside it, which isn't supported yet
-pub record HasHint (parts : PartLines) (refusal : Refusal) : Type 0 where
+-- a hint is written beside a `waitjob` that isn't its hint
+pub record IsHintWrong (parts : PartLines) (refusal : Refusal) : Type 0 where
   pub table : Table
   pub image : Image
   pub assembled : IsAssembled parts table image
-  pub hinted : IsHinted image.waits refusal
+  pub refused : IsMishinted image.words table.semaphores table.own image.waits refusal
 
 -- the script part is refused
 pub record IsUnscripted (parts : PartLines) (refusal : Refusal) : Type 0 where
   pub table : Table
   pub image : Image
   pub assembled : IsAssembled parts table image
-  pub unhinted : AreUnhinted image.waits
+  pub right : AreRightIn table image
   pub refused : IsScriptRefused (parts.script_line + 1) table.tasks parts.script refusal
 
 -- with replay, the schedule part is refused
@@ -139,7 +148,7 @@ pub record IsUnscheduled (replay : Bool) (parts : PartLines) (refusal : Refusal)
   pub table : Table
   pub image : Image
   pub assembled : IsAssembled parts table image
-  pub unhinted : AreUnhinted image.waits
+  pub right : AreRightIn table image
   pub events : List Timed
   pub scripted : IsScripted parts table events
   pub refused : IsScheduleRefused (parts.schedule_line + 1) (length table.tasks) parts.schedule refusal
@@ -151,7 +160,7 @@ IsRefusedOf replay parts refusal =
     ⊎ (IsTooDeep parts refusal
     ⊎ (IsUncoded parts refusal
     ⊎ (HasNoEntry parts refusal
-    ⊎ (HasHint parts refusal
+    ⊎ (IsHintWrong parts refusal
     ⊎ (IsUnscripted parts refusal
     ⊎ IsUnscheduled replay parts refusal)))))
 
@@ -193,5 +202,5 @@ IsTableFail parts NoMemory = ⊤
 
 abbrev pub IsImageFail : PartLines → Table → Fail → Type 0
 IsImageFail parts table (Refused refusal) =
-    IsReadable parts table → IsUncoded parts refusal ⊎ (HasNoEntry parts refusal ⊎ HasHint parts refusal)
+    IsReadable parts table → IsUncoded parts refusal ⊎ HasNoEntry parts refusal
 IsImageFail parts table NoMemory = ⊤

@@ -1,18 +1,14 @@
 -- What the lines of the code part say, and the image of the code. This project's own.
-use Rattle.std.specs.Prelude.{◌≡◌, ◌⊎◌, ℕ, ◌+◌, Bool, true, false, ◌||◌, not, is_some, List, [], ◌∷◌, length, filter, map, slice_index, slice_index_or, Option, Some, None, if◌then◌else◌}
+use Rattle.std.specs.Prelude.{◌≡◌, ◌⊎◌, ℕ, ◌+◌, Bool, true, false, ◌||◌, not, is_some, List, [], ◌∷◌, filter, map, slice_index}
 use Rattle.std.specs.List.{enumerate_from}
 use Rattle.em_base.specs.declared.images.Image.{Image}
-use Rattle.em_base.specs.declared.images.Wait.{Wait}
 use Rattle.em_base.specs.declared.refusals.Refusal.{Refusal}
-use Rattle.em_base.specs.FirstFault.{AreClear, NamesFirst, by_test}
+use Rattle.em_base.specs.FirstFault.{NamesFirst}
 use Rattle.em_asm_read.specs.declared.items.Item.{Item}
 use Rattle.em_asm_read.specs.declared.items.Item.TheVariants.{Nothing}
 use Rattle.em_asm_read.specs.declared.items.Line.{Line}
 use Rattle.em_asm_read.specs.Lines.{IsFaulty, IsLine}
 use Rattle.em_asm.specs.Image.{IsImageOf, IsAssemblyRefused}
-use Rattle.em_bundle.specs.declared.faults.Fault.{Fault}
-use Rattle.em_bundle.specs.declared.faults.Fault.TheVariants.{NotSupported}
-use Rattle.em_bundle.specs.Faults.{code_of}
 
 -- ---- the statements
 
@@ -65,20 +61,3 @@ pub record HasNoImage (first : ℕ) (texts : List (List ℕ)) (refusal : Refusal
 -- the refusal of the code part
 abbrev pub IsCodeRefused : ℕ → List (List ℕ) → Refusal → Type 0
 IsCodeRefused first texts refusal = IsMisread first texts refusal ⊎ HasNoImage first texts refusal
-
--- ---- hints
-
--- a `waitjob` with a semaphore beside it isn't supported yet
-abbrev pub hint_fault : List Wait → Wait → Option Fault
-hint_fault before wait = if is_some wait.hint then Some NotSupported else None
-
-abbrev pub line_of_wait : List Wait → ℕ → ℕ
-line_of_wait waits place = (slice_index_or waits place (record { address = 0; line = 0; hint = None })).line
-
--- no `waitjob` has a semaphore beside it
-abbrev pub AreUnhinted : List Wait → Type 0
-AreUnhinted waits = AreClear (by_test hint_fault) waits (length waits)
-
--- the refusal names the first `waitjob` that has one, by its line
-abbrev pub IsHinted : List Wait → Refusal → Type 0
-IsHinted waits refusal = NamesFirst (by_test hint_fault) code_of (line_of_wait waits) waits refusal

@@ -1,19 +1,18 @@
-//! The code part of a bundle: its image, the entries of tasks in it, and the semaphores beside `waitjob`.
+//! The code part of a bundle: its image, and the entries of tasks in it.
 ghost use Rattle.std.specs.Prelude.{◌≡◌, ◌<◌, ◌≤◌, ◌+◌, ◌^◌, ◌++◌, ◌∷◌, [], All, filter, length, map};
-ghost use Rattle.std.specs.Prelude.{IfErr, IfOk, MatchOption, OnOk};
+ghost use Rattle.std.specs.Prelude.{IfErr, IfOk, OnOk};
 ghost use Rattle.std.specs.Str.Lines.{lines};
 ghost use Rattle.em_base.specs.Apps as apps;
 ghost use Rattle.em_base.specs.Images.{IsWhole};
 ghost use Rattle.em_asm_read.specs.Fitting.{LineFits};
 ghost use Rattle.em_bundle.specs.Code as spec;
-ghost use Rattle.em_bundle.specs.Code.{AreUnhinted, IsCodeOf, IsHinted};
+ghost use Rattle.em_bundle.specs.Code.{IsCodeOf};
 ghost use Rattle.em_bundle.specs.Walk.{AreStatements, IsCodeFail, IsMisreadFail};
 
-use crate::faults::Fault;
 use crate::texts::next_line;
 use em_asm::{Numbers, assemble_numbered};
 use em_asm_read::{Item, Line, one_meaning, read_line};
-use em_base::{Fail, Image, Items, NoMemory, Refusal, TaskRow, Wait};
+use em_base::{Fail, Image, Items, NoMemory, TaskRow};
 use std::alloc::Global;
 
 /// The lines of assembly that say something, with the number of each. The others aren't kept, since there may be millions of
@@ -90,16 +89,4 @@ pub fn have_entries(image: &Image, rows: &[TaskRow]) -> bool
 {
     rows.iter()
         .all(|row| image.address_of(row.entry.as_str()).is_some())
-}
-
-/// The refusal of the first `waitjob` that has a semaphore beside it, where there is one.
-pub fn hint_refusal(waits: &[Wait]) -> Option<Refusal>
-    ensures { MatchOption result (AreUnhinted waits.now) (IsHinted waits.now) }
-{
-    for wait in waits {
-        if wait.hint.is_some() {
-            return Some(Fault::NotSupported.at(wait.line));
-        }
-    }
-    None
 }

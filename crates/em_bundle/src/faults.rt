@@ -17,8 +17,6 @@ pub enum Fault {
     MissingEntry,
     /// The bytes are no UTF-8.
     NotUtf8,
-    /// What stands there is not supported yet.
-    NotSupported,
 }
 
 impl Fault {
@@ -33,7 +31,6 @@ impl Fault {
             Fault::MisplacedHeader => 41,
             Fault::MissingEntry => 42,
             Fault::NotUtf8 => 43,
-            Fault::NotSupported => 60,
         };
         Refusal { code, line }
     }

@@ -1,11 +1,12 @@
 //! Laws of bundles.
-ghost use Rattle.std.specs.Prelude.{◌≡◌, ◌⊎◌, ℕ, All, Bool, true, List, length, Some};
+ghost use Rattle.std.specs.Prelude.{◌≡◌, ◌⊎◌, ℕ, ◌+◌, All, Bool, true, List, length, Some};
 ghost use Rattle.std.specs.Str.Lines.{lines};
 ghost use Rattle.em_base.specs.declared.apps.App.{App};
 ghost use Rattle.em_base.specs.declared.events.Schedule.{Schedule};
 ghost use Rattle.em_base.specs.declared.refusals.Refusal.{Refusal};
 ghost use Rattle.em_base.specs.Events.{IsScript};
 ghost use Rattle.em_base.specs.Tables.{IsTable};
+ghost use Rattle.em_hint.specs.Lines.{HaveWaitLines};
 ghost use Rattle.em_script.specs.Script.{HasWords};
 ghost use Rattle.em_trace.specs.Schedules.{IsSchedule};
 ghost use Rattle.em_bundle.specs.Application.{IsApplication, IsApplicationFor, IsBundleRefusedFor};
@@ -13,6 +14,7 @@ ghost use Rattle.em_bundle.specs.Scheduled.{ended_lines, with_schedule};
 
 use em_asm::one_image;
 use em_asm_read::one_meaning;
+use em_hint::one_map;
 use em_script::one_script;
 use em_trace::{one_schedule, schedule_reads_back};
 
@@ -31,6 +33,7 @@ pub fn one_application()
 {
     one_meaning();
     one_image();
+    one_map();
     one_script();
     one_schedule();
 }
@@ -49,7 +52,8 @@ pub fn replayable()
 }
 
 /// The table of an application that bytes stand for is one that there may be, and so is its script, whose releases have
-/// arrivals and words of 32 bits.
+/// arrivals and words of 32 bits. Each `waitjob` of its image stands in a line of its own of its code text, under the number that
+/// this line has in the bundle, and is the first word of the line behind its label.
 pub fn sound_application()
     ensures table { (replay : Bool) (bytes : List ℕ) (app : App)
         → IsApplicationFor replay bytes app → IsTable app.table }
@@ -57,4 +61,7 @@ pub fn sound_application()
         → IsApplicationFor replay bytes app → IsScript app.table.tasks app.script }
     ensures words { (replay : Bool) (bytes : List ℕ) (app : App)
         → IsApplicationFor replay bytes app → All HasWords app.script }
+    ensures waits { (replay : Bool) (bytes : List ℕ) (app : App)
+        → IsApplicationFor replay bytes app
+        → HaveWaitLines (app.code_line + 1) (lines app.code_text) app.image.waits }
 {}

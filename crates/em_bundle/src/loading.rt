@@ -10,21 +10,22 @@ ghost use Rattle.em_base.specs.Events.{AreEarly, IsScript};
 ghost use Rattle.em_base.specs.Images.{IsWhole};
 ghost use Rattle.em_base.specs.Tables.{IsTable};
 ghost use Rattle.em_admit.specs.Depth.{AreShallow};
+ghost use Rattle.em_hint.specs.Lines.{HaveWaitLines};
 ghost use Rattle.em_trace.specs.ScheduleFaults.{IsScheduleFail};
 ghost use Rattle.em_trace.specs.Schedules.{IsSchedule};
 ghost use Rattle.em_bundle.specs.Application.{HasDeepBuffer, IsApplicationFor, IsApplicationOf, IsBundleFail};
 ghost use Rattle.em_bundle.specs.Application.{IsBundleRefusedFor, IsCoded, IsImageFail, IsPartsFail};
 ghost use Rattle.em_bundle.specs.Application.{IsScheduled, IsTableFail, IsTabled};
-ghost use Rattle.em_bundle.specs.Code.{AreUnhinted};
 ghost use Rattle.em_bundle.specs.Walk.{part_lines};
 
-use crate::code::{have_entries, hint_refusal, read_code};
+use crate::code::{have_entries, read_code};
 use crate::faults::Fault;
-use crate::laws::one_application;
+use crate::laws::{one_application, sound_application};
 use crate::parts::{Parts, cut};
 use crate::texts::{line_of, with_line_feeds};
 use em_admit::depth;
-use em_base::{App, Fail, HintMap, Image, Items, MsgId, Name, Schedule, Table};
+use em_base::{App, Fail, Image, MsgId, Name, Schedule, Table};
+use em_hint::hints;
 use em_script::read_script;
 use em_table::read_table;
 use em_trace::read_schedule;
@@ -64,23 +65,19 @@ fn is_too_deep(table: &Table) -> bool
     false
 }
 
-/// The image of a bundle, in which each task of its table has its entry and no `waitjob` a semaphore beside it.
+/// The image of a bundle, in which each task of its table has its entry.
 fn load_code(alloc: Global, parts: &Parts<'_>, table: &Table) -> Result<Image, Fail>
     requires { parts.now.code_line + 1 + length (lines parts.now.code.now) < 2 ^ 32 }
     ensures image { IfOk result (IsCoded (part_lines parts.now)) }
     ensures whole { IfOk result IsWhole }
     ensures entries { IfOk result (λ image. apps.have_entries image table.now.tasks ≡ true) }
-    ensures unhinted { IfOk result (λ image. AreUnhinted image.waits) }
     ensures refused { IfErr result (IsImageFail (part_lines parts.now) table.now) }
 {
     let image = read_code(alloc, parts.code, parts.code_line + 1)?;
     if !have_entries(&image, table.tasks.as_slice()) {
         return Err(Fail::Refused(Fault::MissingEntry.at(parts.code_line)));
     }
-    match hint_refusal(image.waits.as_slice()) {
-        Some(refusal) => Err(Fail::Refused(refusal)),
-        None => Ok(image),
-    }
+    Ok(image)
 }
 
 /// The schedule of a bundle for the tasks of its table, where it is to be replayed.
@@ -113,10 +110,12 @@ fn load_parts(alloc: Global, parts: &Parts<'_>, replay: bool) -> Result<App, Fai
     ensures app { IfOk result (IsApplicationOf replay (part_lines parts.now)) }
     ensures valid { IfOk result IsApp }
     ensures early { IfOk result (λ app. AreEarly app.script) }
+    ensures few { IfOk result (λ app. app.code_line + length (lines app.code_text) < 2 ^ 31) }
     ensures refused { IfErr result (IsPartsFail replay (part_lines parts.now)) }
 {
     let table = load_table(alloc, parts)?;
     let image = load_code(alloc, parts, &table)?;
+    let hints = hints(alloc, &image, table.semaphores, table.own)?;
     let script = read_script(alloc, parts.script, parts.script_line + 1, &table)?;
     let schedule = load_schedule(alloc, parts, &table, replay)?;
     let code_text = Name::from(with_line_feeds(alloc, parts.code)?);
@@ -125,9 +124,7 @@ fn load_parts(alloc: Global, parts: &Parts<'_>, replay: bool) -> Result<App, Fai
         code_text,
         code_line: parts.code_line,
         image,
-        hints: HintMap {
-            hints: Items::new(alloc),
-        },
+        hints,
         script,
         schedule,
     })
@@ -139,6 +136,7 @@ fn load_text(alloc: Global, text: &str, replay: bool) -> Result<App, Fail>
     ensures app { IfOk result (IsApplicationFor replay text.now) }
     ensures valid { IfOk result IsApp }
     ensures early { IfOk result (λ app. AreEarly app.script) }
+    ensures few { IfOk result (λ app. app.code_line + length (lines app.code_text) < 2 ^ 31) }
     ensures refused { IfErr result (IsBundleFail replay text.now) }
 {
     match cut(text, replay) {
@@ -153,6 +151,7 @@ fn load_bytes(alloc: Global, bytes: &[u8], replay: bool) -> Result<App, Fail>
     ensures app { IfOk result (IsApplicationFor replay bytes.now) }
     ensures valid { IfOk result IsApp }
     ensures early { IfOk result (λ app. AreEarly app.script) }
+    ensures few { IfOk result (λ app. app.code_line + length (lines app.code_text) < 2 ^ 31) }
     ensures refused { IfErr result (IsBundleFail replay bytes.now) }
 {
     match str::from_utf8(bytes) {
@@ -175,7 +174,7 @@ fn load_bytes(alloc: Global, bytes: &[u8], replay: bool) -> Result<App, Fail>
 ///   than 64 values;
 /// * 1 to 10: the code is refused, as [`em_asm_read::read_line`] and [`em_asm::assemble_numbered`] refuse it;
 /// * 42: the entry of a task is no label of the code;
-/// * 60: a `waitjob` has a semaphore beside it, which isn't supported yet;
+/// * 11: a semaphore stands beside a `waitjob` that isn't its hint, as [`hints`] finds it;
 /// * 30 to 33: the script is refused, as [`read_script`] refuses it;
 /// * 50 to 52: with `replay`, the schedule is refused, as [`read_schedule`] refuses it.
 ///
@@ -198,11 +197,18 @@ pub fn load(alloc: Global, bytes: &[u8], replay: bool) -> Result<App, Fail>
     ensures valid { IfOk result IsApp }
     ensures early { IfOk result (λ app. AreEarly app.script) }
 
+    // Each `waitjob` has a line of its own in the code text, which begins with that word, and the numbers of these lines are
+    // small.
+    ensures waits { IfOk result (λ app. let texts = lines app.code_text in
+        HaveWaitLines (app.code_line + 1) texts app.image.waits) }
+    ensures few { IfOk result (λ app. app.code_line + length (lines app.code_text) < 2 ^ 31) }
+
     // It has a schedule exactly with `replay`, and this is one for as many tasks as its table has.
     ensures scheduled { IfOk result (λ app. is_some app.schedule ≡ replay) }
     ensures schedule { IfOk result
         (λ app. IfSome app.schedule (IsSchedule (length app.table.tasks))) }
 {
     one_application();
+    sound_application();
     load_bytes(alloc, bytes, replay)
 }

@@ -3,7 +3,7 @@ ghost use Rattle.std.specs.Prelude.{◌≡◌, ◌<◌, [], length};
 ghost use Rattle.em_admit.specs.Depth.{AreShallow};
 ghost use Rattle.em_base.specs.Apps.{IsApp};
 
-use em_base::{App, Event, Key, NoMemory, Status, Steps, TaskId};
+use em_base::{App, Event, HintMap, Items, Key, NoMemory, Status, Steps, TaskId};
 use em_bundle::load;
 use em_kernel::{Did, Kernel, StepKind, View, What};
 use em_ports::{LatchPort, Port, Ports};
@@ -113,7 +113,11 @@ fn refusal() -> Did {
 
 #[test]
 fn a_kernel_takes_its_first_steps(rt: HostRuntime) -> Result<(), Fail> {
-    let app = load(rt.alloc(), ONE.as_bytes(), false)?;
+    let mut app = load(rt.alloc(), ONE.as_bytes(), false)?;
+    // The kernel takes no hints yet.
+    app.hints = HintMap {
+        hints: Items::new(rt.alloc()),
+    };
     let start = start_of::<Brand>(rt.alloc(), &app, Blank::new(1))?;
     let awake = View {
         status: Status::Awake,

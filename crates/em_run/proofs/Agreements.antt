@@ -26,12 +26,13 @@ use Rattle.em_sched.specs.Image.{schedule_of}
 use Rattle.em_sched.specs.Reads.{AreReadsWhole}
 use Rattle.em_sched.specs.Traces.{AreFirstOf, Gives, IsRising, lines_in}
 use Rattle.em_run.specs.declared.commands.Command.{Command}
-use Rattle.em_run.specs.declared.commands.Command.TheVariants.{Run, Trial, Replay, List as ListCode, Bench}
+use Rattle.em_run.specs.declared.commands.Command.TheVariants.{Run, Trial, Replay, List as ListCode, Hint, Bench}
 use Rattle.em_run.specs.declared.status.Status.{Status}
 use Rattle.em_run.specs.declared.status.Status.TheVariants.{Done, Lapped}
 use Rattle.em_run.specs.Agreed.{HasWholeReads, IsAgreed, IsReplayed, is_run}
 use Rattle.em_run.specs.Commands.{IsCommand}
 use Rattle.em_run.specs.Output.{AreBytesOf, IsDue, IsOutputOf, IsReplay, IsRunOutput, Reading}
+use Rattle.em_run.specs.Unhinted.{unhinted}
 use Rattle.em_run.specs.Runs.{end_word, replay_text}
 
 -- the laws that it rests on: of bundles, of runs, and of schedules
@@ -132,19 +133,19 @@ replay_of (Full p count) lines gives =
 replay_of (Misfit p count) lines gives = absurd gives
 
 replayed : RunLaws → (bytes : List ℕ) (app : App) (before : Places) → IsApplication bytes app
-    → let schedule = schedule_of app before in schedule.last ≤ most_steps → length (with_schedule bytes schedule) ≤ input_limit
-    → IsReplayed bytes schedule before (lines_in (run_steps app before))
+    → let schedule = schedule_of (unhinted app) before in schedule.last ≤ most_steps → length (with_schedule bytes schedule) ≤ input_limit
+    → IsReplayed bytes schedule before (lines_in (run_steps (unhinted app) before))
 replayed laws bytes app before stands few within =
-    let schedule = schedule_of app before in
+    let source = unhinted app in
+    let schedule = schedule_of source before in
     let table = laws.table false bytes app stands in
-    let hints = stands.stands.hints in
-    let valid = laws.valid app before table hints (laws.script false bytes app stands) (laws.words false bytes app stands) few in
-    let again = with app (Some schedule) in
-    let same = sym (run_with app (Some schedule) before schedule) in
-    let gives = subst (λ went. Gives went (lines_in (run_steps app before))) same (laws.trace app before table hints) in
-    let (ending, replays) = replay_of (plain_run again before schedule) (lines_in (run_steps app before)) gives in
+    let valid = laws.valid source before table refl (laws.script false bytes app stands) (laws.words false bytes app stands) few in
+    let again = with source (Some schedule) in
+    let same = sym (run_with source (Some schedule) before schedule) in
+    let gives = subst (λ went. Gives went (lines_in (run_steps source before))) same (laws.trace source before table refl) in
+    let (ending, replays) = replay_of (plain_run again before schedule) (lines_in (run_steps source before)) gives in
     record {
-      app = again;
+      app = with app (Some schedule);
       stands = laws.replays bytes app schedule stands valid;
       ending = ending;
       after = (state_of (plain_run again before schedule)).ports;
@@ -154,22 +155,22 @@ replayed laws bytes app before stands few within =
 -- ---- what is written
 
 agreed_run : RunLaws → (bytes : List ℕ) (app : App) (before : Places) (status : Status) (text : List ℕ) (after : Places) → IsApplication bytes app
-    → IsRunOutput app before status text after → IsAgreed bytes before text
+    → IsRunOutput (unhinted app) before status text after → IsAgreed bytes before text
 agreed_run laws bytes app before status text after stands output =
+    let source = unhinted app in
     let table = laws.table false bytes app stands in
-    let hints = stands.stands.hints in
     record {
       app = app;
       stands = stands;
-      lines = lines_in (run_steps app before);
-      schedule = schedule_of app before;
+      lines = lines_in (run_steps source before);
+      schedule = schedule_of source before;
       ending = _;
       text_is = output.text_is;
       run = refl;
       counted = refl;
-      first = laws.first app before table hints;
-      rises = laws.rises app before table hints;
-      plain = laws.trace app before table hints;
+      first = laws.first source before table refl;
+      rises = laws.rises source before table refl;
+      plain = laws.trace source before table refl;
       replayed = replayed laws bytes app before stands;
     }
 
@@ -183,12 +184,13 @@ agreed laws Run bytes before status text after h e = agreed_run laws bytes h.app
 agreed laws Trial bytes before status text after h e = agreed_run laws bytes h.app before status text after h.stands h.output
 agreed laws Replay bytes before status text after h e = absurd (not_run e)
 agreed laws ListCode bytes before status text after h e = absurd (not_run e)
+agreed laws Hint bytes before status text after h e = absurd (not_run e)
 agreed laws (Bench n) bytes before status text after h e = absurd (not_run e)
 
 whole_reads : RunLaws → (bytes : List ℕ) (app : App) (before : Places) (status : Status) (text : List ℕ) (after : Places) → IsApplication bytes app
-    → IsRunOutput app before status text after → HasWholeReads bytes before text
+    → IsRunOutput (unhinted app) before status text after → HasWholeReads bytes before text
 whole_reads laws bytes app before status text after stands output =
-    record { app = app; stands = stands; text_is = output.text_is; reads = laws.whole app before (laws.table false bytes app stands) stands.stands.hints }
+    record { app = app; stands = stands; text_is = output.text_is; reads = laws.whole (unhinted app) before (laws.table false bytes app stands) refl }
 
 -- the reads of a run or a trial are whole
 pub read_whole : RunLaws → (command : Command) (bytes : List ℕ) (before : Places) (status : Status) (text : List ℕ) (after : Places)
@@ -197,6 +199,7 @@ read_whole laws Run bytes before status text after h e = whole_reads laws bytes 
 read_whole laws Trial bytes before status text after h e = whole_reads laws bytes h.app before status text after h.stands h.output
 read_whole laws Replay bytes before status text after h e = absurd (not_run e)
 read_whole laws ListCode bytes before status text after h e = absurd (not_run e)
+read_whole laws Hint bytes before status text after h e = absurd (not_run e)
 read_whole laws (Bench n) bytes before status text after h e = absurd (not_run e)
 
 -- what is written where the status is Done or Lapped

@@ -10,12 +10,13 @@ use Rattle.em_gate.specs.Boot.{boot}
 use Rattle.em_gate.specs.State.{Plain}
 use Rattle.em_base.specs.declared.events.Schedule.{Schedule}
 use Rattle.em_plain.specs.Runs.{part_from, run_from, state_of}
-use Rattle.em_run.specs.declared.commands.Command.TheVariants.{Run, Trial, Replay, List as ListCode, Bench}
+use Rattle.em_run.specs.declared.commands.Command.TheVariants.{Run, Trial, Replay, List as ListCode, Hint, Bench}
 use Rattle.em_io.specs.Bytes.{input_limit, Rose, then_left, IsAtEnd, Took}
 use Rattle.em_run.specs.declared.commands.Command.{Command}
 use Rattle.em_run.specs.declared.status.Status.{Status}
 use Rattle.em_run.specs.declared.status.Status.TheVariants.{Done, Usage, ReadFault, WriteFault, TooLong, Malformed, Lapped, Misfit, NoMemory}
 use Rattle.em_run.specs.Commands.{IsCommand}
+use Rattle.em_run.specs.Unhinted.{unhinted}
 use Rattle.em_run.specs.Output.{AreBytesOf, AreGiven, AreLeft, IsAnswerTo, IsDue, IsOutput, IsOutputOf, IsPartWay, IsRefusalText, IsReplayOutput, IsReplayPart, ReadsAll, ReadsWithin, Reading, is_reader, is_replay, refusal_text}
 use Rattle.em_run.proofs.OneAnswer.{BundleLaws}
 use Rattle.em_run.proofs.OneCommand.{one_command}
@@ -46,6 +47,7 @@ read_by Run r bytes e read = read
 read_by Trial r bytes e read = read
 read_by Replay r bytes e read = read
 read_by ListCode r bytes e read = read
+read_by Hint r bytes e read = read
 read_by (Bench n) r bytes e read = absurd (true≢false (sym e))
 
 nothing_taken : (before after : Option (List ℕ)) → after ≡ before → before ≡ then_left [] after
@@ -58,6 +60,7 @@ within_of Run r bytes read = (bytes, read.within, read.all)
 within_of Trial r bytes read = (bytes, read.within, read.all)
 within_of Replay r bytes read = (bytes, read.within, read.all)
 within_of ListCode r bytes read = (bytes, read.within, read.all)
+within_of Hint r bytes read = (bytes, read.within, read.all)
 within_of (Bench n) r bytes read = ([], omega arith, nothing_taken r.left_before r.left_after read.1)
 
 -- no more was read than the limit, where not the length is what is amiss
@@ -89,14 +92,15 @@ replay_part laws app before status text after out =
 left_by_output : PlainLaws → (command : Command) (bytes : List ℕ) (before : Places) (s : Status) (text : List ℕ) (after : Places) (app : App) → IsApplicationFor (is_replay command) bytes app
     → IsOutput command app before s text after → (after ≡ before) ⊎ IsPartWay command bytes before after
 left_by_output laws Run bytes before s text after app stands out =
-    inr record { app = app; stands = stands; part = (fuel app (counted_boot app before), out.ports_are) }
+    inr record { app = app; stands = stands; part = (fuel (unhinted app) (counted_boot (unhinted app) before), out.ports_are) }
 left_by_output laws Trial bytes before s text after app stands out =
-    inr record { app = app; stands = stands; part = (fuel app (counted_boot app before), out.ports_are) }
+    inr record { app = app; stands = stands; part = (fuel (unhinted app) (counted_boot (unhinted app) before), out.ports_are) }
 left_by_output laws Replay bytes before s text after app stands out =
-    inr record { app = app; stands = stands; part = replay_part laws app before s text after out }
+    inr record { app = app; stands = stands; part = replay_part laws (unhinted app) before s text after out }
 left_by_output laws ListCode bytes before s text after app stands out = inl out.ports_stay
+left_by_output laws Hint bytes before s text after app stands out = inl out.ports_stay
 left_by_output laws (Bench n) bytes before s text after app stands out =
-    inr record { app = app; stands = stands; part = (fuel app (counted_boot app before), out.ports_are) }
+    inr record { app = app; stands = stands; part = (fuel (unhinted app) (counted_boot (unhinted app) before), out.ports_are) }
 
 left_by : (words : List (List ℕ)) (r : Reading) (before after : Places) (command : Command) (bytes : List ℕ) → IsCommand words command → AreBytesOf command r bytes
     → (after ≡ before) ⊎ IsPartWay command bytes before after → AreLeft words r before after
@@ -130,6 +134,7 @@ same_given Run r bytes taken given read = same_bytes r bytes taken given.0 read
 same_given Trial r bytes taken given read = same_bytes r bytes taken given.0 read
 same_given Replay r bytes taken given read = same_bytes r bytes taken given.0 read
 same_given ListCode r bytes taken given read = same_bytes r bytes taken given.0 read
+same_given Hint r bytes taken given read = same_bytes r bytes taken given.0 read
 same_given (Bench n) r bytes taken given read = read.0 ∙ sym given
 
 -- a command that reads was given what the source had left
@@ -139,6 +144,7 @@ given_by Run r bytes e given = given
 given_by Trial r bytes e given = given
 given_by Replay r bytes e given = given
 given_by ListCode r bytes e given = given
+given_by Hint r bytes e given = given
 given_by (Bench n) r bytes e given = absurd (true≢false (sym e))
 
 too_long : (words : List (List ℕ)) (r : Reading) (bytes : List ℕ) (command other : Command) → IsCommand words command → IsCommand words other

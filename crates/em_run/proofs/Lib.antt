@@ -8,3 +8,4 @@ pub mod Agreements
 pub mod Loading
 pub mod TaskLoading
 pub mod Outputs
+pub mod Sources

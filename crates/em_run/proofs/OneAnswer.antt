@@ -1,5 +1,5 @@
 -- For a command and bytes one status with one text is due beside want of memory.
-use Rattle.std.proofs.Common.{◌≡◌, ◌≢◌, ◌⊎◌, ◌∙◌, ℕ, Bool, true, false, List, Option, Some, None, inl, inr, refl, sym, ap, subst}
+use Rattle.std.proofs.Common.{◌+◌, ◌≡◌, ◌≢◌, ◌⊎◌, ◌∙◌, ℕ, Bool, true, false, List, Option, Some, None, inl, inr, refl, sym, ap, subst}
 use Rattle.std.specs.Str.Lines.{lines}
 use Rattle.em_base.specs.declared.apps.App.{App}
 use Rattle.em_base.specs.declared.events.Schedule.{Schedule}
@@ -13,9 +13,11 @@ use Rattle.em_kernel.specs.Run.{run_steps}
 use Rattle.em_plain.specs.Runs.{Went, On, Full, Misfit as MisfitWent, plain_run, state_of}
 use Rattle.em_ports.specs.Ports.{Places}
 use Rattle.em_run.specs.declared.commands.Command.{Command}
-use Rattle.em_run.specs.declared.commands.Command.TheVariants.{Run, Trial, Replay, List as ListCode, Bench}
+use Rattle.em_run.specs.declared.commands.Command.TheVariants.{Run, Trial, Replay, List as ListCode, Hint, Bench}
 use Rattle.em_run.specs.declared.status.Status.{Status}
 use Rattle.em_run.specs.declared.status.Status.TheVariants.{Done, Usage, ReadFault, WriteFault, TooLong, Malformed, Lapped, Misfit, NoMemory}
+use Rattle.em_hint.specs.Lines.{hinted_text}
+use Rattle.em_run.specs.Unhinted.{unhinted}
 use Rattle.em_run.specs.Output.{IsAnswerTo, IsBenchOutput, IsOutput, IsOutputOf, IsRefusalText, IsReplay, IsReplayOutput, IsRunOutput, is_replay, refusal_text, status_of}
 use Rattle.em_run.specs.Runs.{bench_text, cause_in, end_word, misfit_text, ports_after, replay_text, run_text}
 
@@ -55,7 +57,7 @@ benched n app before = record { status_is = refl; text_is = refl; ports_are = re
 
 -- the output of a replay is due, by how far it went
 replayed : (bytes : List ℕ) (before : Places) (app : App) → IsApplicationFor true bytes app → (schedule : Schedule) → app.schedule ≡ Some schedule
-    → (went : Went) → plain_run app before schedule ≡ went → Answer Replay bytes before
+    → (went : Went) → plain_run (unhinted app) before schedule ≡ went → Answer Replay bytes before
 replayed bytes before app stands schedule given (On p count) e = (
   Done,
   replay_text p.lines (end_word false) count,
@@ -109,23 +111,26 @@ by_schedule : (bytes : List ℕ) (before : Places) (app : App) → IsApplication
     → IsScheduled true (parts_of (lines bytes)) app.table found → Answer Replay bytes before
 by_schedule bytes before app stands None given scheduled = absurd scheduled
 by_schedule bytes before app stands (Some schedule) given scheduled =
-    replayed bytes before app stands schedule given (plain_run app before schedule) refl
+    replayed bytes before app stands schedule given (plain_run (unhinted app) before schedule) refl
 
 of_app : ListingLaws → (command : Command) (bytes : List ℕ) (before : Places) (app : App) → IsApplicationFor (is_replay command) bytes app → Answer command bytes before
 of_app listings Run bytes before app stands =
-    by_status Run bytes before (cause_in (run_steps app before)) (run_text app before) (ports_after app before)
-    record { app = app; stands = stands; output = ran app before }
+    by_status Run bytes before (cause_in (run_steps (unhinted app) before)) (run_text (unhinted app) before) (ports_after (unhinted app) before)
+    record { app = app; stands = stands; output = ran (unhinted app) before }
 of_app listings Trial bytes before app stands =
-    by_status Trial bytes before (cause_in (run_steps app before)) (run_text app before) (ports_after app before)
-    record { app = app; stands = stands; output = ran app before }
+    by_status Trial bytes before (cause_in (run_steps (unhinted app) before)) (run_text (unhinted app) before) (ports_after (unhinted app) before)
+    record { app = app; stands = stands; output = ran (unhinted app) before }
 of_app listings Replay bytes before app stands = by_schedule bytes before app stands app.schedule refl stands.stands.schedule
 of_app listings ListCode bytes before app stands =
     let (text, listing) = listings.some app.image.words in
     by_status ListCode bytes before None text before
     record { app = app; stands = stands; output = record { status_is = refl; text_is = listing; ports_stay = refl } }
+of_app listings Hint bytes before app stands =
+    by_status Hint bytes before None (hinted_text app.hints app.image.waits (app.code_line + 1) (lines app.code_text)) before
+    record { app = app; stands = stands; output = record { status_is = refl; text_is = refl; ports_stay = refl } }
 of_app listings (Bench n) bytes before app stands =
-    by_status (Bench n) bytes before (cause_in (run_steps app before)) (bench_text n app before) (ports_after app before)
-    record { app = app; stands = stands; output = benched n app before }
+    by_status (Bench n) bytes before (cause_in (run_steps (unhinted app) before)) (bench_text n (unhinted app) before) (ports_after (unhinted app) before)
+    record { app = app; stands = stands; output = benched n (unhinted app) before }
 
 refused : (command : Command) (bytes : List ℕ) (before : Places) (refusal : Refusal) → IsBundleRefusedFor (is_replay command) bytes refusal → Answer command bytes before
 refused command bytes before refusal h =
@@ -170,9 +175,11 @@ same_output listings Run app before one other text other_text after other_after 
 same_output listings Trial app before one other text other_text after other_after h k =
     (h.status_is ∙ sym k.status_is, h.text_is ∙ sym k.text_is, h.ports_are ∙ sym k.ports_are)
 same_output listings Replay app before one other text other_text after other_after h k =
-    same_replays app before one other text other_text after other_after h k
+    same_replays (unhinted app) before one other text other_text after other_after h k
 same_output listings ListCode app before one other text other_text after other_after h k =
     (h.status_is ∙ sym k.status_is, listings.same app.image.words text other_text h.text_is k.text_is, h.ports_stay ∙ sym k.ports_stay)
+same_output listings Hint app before one other text other_text after other_after h k =
+    (h.status_is ∙ sym k.status_is, h.text_is ∙ sym k.text_is, h.ports_stay ∙ sym k.ports_stay)
 same_output listings (Bench n) app before one other text other_text after other_after h k =
     (h.status_is ∙ sym k.status_is, h.text_is ∙ sym k.text_is, h.ports_are ∙ sym k.ports_are)
 

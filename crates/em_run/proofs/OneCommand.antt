@@ -7,7 +7,7 @@ use Rattle.std.proofs.lemmas.Bool.{cases_lt, false≢true}
 use Rattle.std.proofs.lemmas.Slice.Eq.{bytes_eq-Decides}
 use Rattle.clap.specs.Words.{Kinds, Text, fault_of}
 use Rattle.em_run.specs.declared.commands.Command.{Command}
-use Rattle.em_run.specs.declared.commands.Command.TheVariants.{Run, Trial, Replay, List as ListCode, Bench}
+use Rattle.em_run.specs.declared.commands.Command.TheVariants.{Run, Trial, Replay, List as ListCode, Hint, Bench}
 use Rattle.em_run.specs.Commands.{IsCommand, IsNoCommand, IsNumberOf, Spells, command_line, command_text, value_in}
 
 same_number : (m n : ℕ) (number : Option (List ℕ)) → IsNumberOf (Bench m) number → IsNumberOf (Bench n) number → Bench m ≡ Bench n
@@ -20,26 +20,37 @@ same_text Run Run number e h k = refl
 same_text Run Trial number e h k = absurd (omega (arith, ap length e))
 same_text Run Replay number e h k = absurd (omega (arith, ap length e))
 same_text Run ListCode number e h k = absurd (omega (arith, ap length e))
+same_text Run Hint number e h k = absurd (omega (arith, ap length e))
 same_text Run (Bench n) number e h k = absurd (omega (arith, ap length e))
 same_text Trial Run number e h k = absurd (omega (arith, ap length e))
 same_text Trial Trial number e h k = refl
 same_text Trial Replay number e h k = absurd (omega (arith, ap length e))
 same_text Trial ListCode number e h k = absurd (omega (arith, ap length e))
+same_text Trial Hint number e h k = absurd (omega (arith, ap length e))
 same_text Trial (Bench n) number e h k = absurd (omega (arith, ap (λ bytes. slice_index_or bytes 0 0) e))
 same_text Replay Run number e h k = absurd (omega (arith, ap length e))
 same_text Replay Trial number e h k = absurd (omega (arith, ap length e))
 same_text Replay Replay number e h k = refl
 same_text Replay ListCode number e h k = absurd (omega (arith, ap length e))
+same_text Replay Hint number e h k = absurd (omega (arith, ap length e))
 same_text Replay (Bench n) number e h k = absurd (omega (arith, ap length e))
 same_text ListCode Run number e h k = absurd (omega (arith, ap length e))
 same_text ListCode Trial number e h k = absurd (omega (arith, ap length e))
 same_text ListCode Replay number e h k = absurd (omega (arith, ap length e))
 same_text ListCode ListCode number e h k = refl
+same_text ListCode Hint number e h k = absurd (omega (arith, ap (λ bytes. slice_index_or bytes 0 0) e))
 same_text ListCode (Bench n) number e h k = absurd (omega (arith, ap length e))
+same_text Hint Run number e h k = absurd (omega (arith, ap length e))
+same_text Hint Trial number e h k = absurd (omega (arith, ap length e))
+same_text Hint Replay number e h k = absurd (omega (arith, ap length e))
+same_text Hint ListCode number e h k = absurd (omega (arith, ap (λ bytes. slice_index_or bytes 0 0) e))
+same_text Hint Hint number e h k = refl
+same_text Hint (Bench n) number e h k = absurd (omega (arith, ap length e))
 same_text (Bench m) Run number e h k = absurd (omega (arith, ap length e))
 same_text (Bench m) Trial number e h k = absurd (omega (arith, ap (λ bytes. slice_index_or bytes 0 0) e))
 same_text (Bench m) Replay number e h k = absurd (omega (arith, ap length e))
 same_text (Bench m) ListCode number e h k = absurd (omega (arith, ap length e))
+same_text (Bench m) Hint number e h k = absurd (omega (arith, ap length e))
 same_text (Bench m) (Bench n) number e h k = same_number m n number h k
 
 same_some : (one other : List ℕ) → Some one ≡ Some other → one ≡ other
@@ -74,21 +85,25 @@ IsUnnumbered text = ((command : Command) × (text ≡ command_text command) × I
     ⊎ ((command : Command) → text ≡ command_text command → IsNumberOf command None → ⊥)
 
 unnumbered : (text : List ℕ) → IsUnnumbered text
-unnumbered text = by_tests (either text (codes "run")) (either text (codes "trial")) (either text (codes "replay")) (either text (codes "list"))
+unnumbered text =
+    by_tests (either text (codes "run")) (either text (codes "trial")) (either text (codes "replay")) (either text (codes "list")) (either text (codes "hint"))
   where
-    none : text ≢ codes "run" → text ≢ codes "trial" → text ≢ codes "replay" → text ≢ codes "list" → (command : Command) → text ≡ command_text command → IsNumberOf command None → ⊥
-    none run trial replay list Run e h = run e
-    none run trial replay list Trial e h = trial e
-    none run trial replay list Replay e h = replay e
-    none run trial replay list ListCode e h = list e
-    none run trial replay list (Bench n) e h = h
+    none : text ≢ codes "run" → text ≢ codes "trial" → text ≢ codes "replay" → text ≢ codes "list" → text ≢ codes "hint" → (command : Command) → text ≡ command_text command → IsNumberOf command None → ⊥
+    none run trial replay list hint Run e h = run e
+    none run trial replay list hint Trial e h = trial e
+    none run trial replay list hint Replay e h = replay e
+    none run trial replay list hint ListCode e h = list e
+    none run trial replay list hint Hint e h = hint e
+    none run trial replay list hint (Bench n) e h = h
 
-    by_tests : IsEither text (codes "run") → IsEither text (codes "trial") → IsEither text (codes "replay") → IsEither text (codes "list") → IsUnnumbered text
-    by_tests (inl e) trial replay list = inl (Run, e, refl)
-    by_tests (inr run) (inl e) replay list = inl (Trial, e, refl)
-    by_tests (inr run) (inr trial) (inl e) list = inl (Replay, e, refl)
-    by_tests (inr run) (inr trial) (inr replay) (inl e) = inl (ListCode, e, refl)
-    by_tests (inr run) (inr trial) (inr replay) (inr list) = inr (none run trial replay list)
+    by_tests : IsEither text (codes "run") → IsEither text (codes "trial") → IsEither text (codes "replay") → IsEither text (codes "list")
+        → IsEither text (codes "hint") → IsUnnumbered text
+    by_tests (inl e) trial replay list hint = inl (Run, e, refl)
+    by_tests (inr run) (inl e) replay list hint = inl (Trial, e, refl)
+    by_tests (inr run) (inr trial) (inl e) list hint = inl (Replay, e, refl)
+    by_tests (inr run) (inr trial) (inr replay) (inl e) hint = inl (ListCode, e, refl)
+    by_tests (inr run) (inr trial) (inr replay) (inr list) (inl e) = inl (Hint, e, refl)
+    by_tests (inr run) (inr trial) (inr replay) (inr list) (inr hint) = inr (none run trial replay list hint)
 
 -- a text is decimal digits, or not
 all_digits : (text : List ℕ) → AllDigits 10 text ⊎ (AllDigits 10 text → ⊥)
@@ -137,6 +152,7 @@ numbered text number = by_tests (either text (codes "bench")) (spelled number)
     none bench Trial e h = some_number number h
     none bench Replay e h = some_number number h
     none bench ListCode e h = some_number number h
+    none bench Hint e h = some_number number h
     none bench (Bench n) e h = bench e
 
     unspelled : ((n : ℕ) → Spells n number → ⊥) → (command : Command) → text ≡ command_text command → IsNumberOf command (Some number) → ⊥
@@ -144,6 +160,7 @@ numbered text number = by_tests (either text (codes "bench")) (spelled number)
     unspelled none_spelled Trial e h = some_number number h
     unspelled none_spelled Replay e h = some_number number h
     unspelled none_spelled ListCode e h = some_number number h
+    unspelled none_spelled Hint e h = some_number number h
     unspelled none_spelled (Bench n) e h = none_spelled n h
 
     by_tests : IsEither text (codes "bench") → IsSpelled number → IsNumbered text number

@@ -12,11 +12,12 @@ use Rattle.em_bundle.specs.Application.{IsApplicationFor, IsBundleFail, IsBundle
 use Rattle.em_kernel.specs.declared.did.End.{End}
 use Rattle.em_kernel.specs.declared.did.End.TheVariants.{Horizon, Quiet, Lines, Lapped as LappedEnd}
 use Rattle.em_run.specs.declared.commands.Command.{Command}
-use Rattle.em_run.specs.declared.commands.Command.TheVariants.{Run, Trial, Replay, List as ListCode, Bench}
+use Rattle.em_run.specs.declared.commands.Command.TheVariants.{Run, Trial, Replay, List as ListCode, Hint, Bench}
 use Rattle.em_run.specs.declared.status.Status.{Status}
 use Rattle.em_run.specs.declared.status.Status.TheVariants.{Done, Usage, ReadFault, WriteFault, TooLong, Malformed, Lapped, Misfit, NoMemory}
 use Rattle.em_kernel.specs.Run.{run_steps}
 use Rattle.em_plain.specs.Runs.{Went, On, Full, Misfit as MisfitWent, plain_run}
+use Rattle.em_run.specs.Unhinted.{unhinted}
 use Rattle.em_run.specs.Output.{IsAnswerTo, IsOutput, IsReplay, is_replay, status_of}
 use Rattle.em_run.specs.Runs.{cause_in}
 use Rattle.em_run.specs.Texts.{IsAnswerFor, IsRefusalAnswer}
@@ -39,11 +40,12 @@ ended_replay (MisfitWent p count) status text h = inr (inr h.0)
 
 ended : (command : Command) (app : App) (before : Places) (status : Status) (text : List ℕ) (after : Places)
     → IsOutput command app before status text after → IsEnded status
-ended Run app before status text after out = subst IsEnded (sym out.status_is) (ended_run (cause_in (run_steps app before)))
-ended Trial app before status text after out = subst IsEnded (sym out.status_is) (ended_run (cause_in (run_steps app before)))
-ended Replay app before status text after out = ended_replay (plain_run app before out.schedule) status text out.replays
+ended Run app before status text after out = subst IsEnded (sym out.status_is) (ended_run (cause_in (run_steps (unhinted app) before)))
+ended Trial app before status text after out = subst IsEnded (sym out.status_is) (ended_run (cause_in (run_steps (unhinted app) before)))
+ended Replay app before status text after out = ended_replay (plain_run (unhinted app) before out.schedule) status text out.replays
 ended ListCode app before status text after out = inl out.status_is
-ended (Bench n) app before status text after out = subst IsEnded (sym out.status_is) (ended_run (cause_in (run_steps app before)))
+ended Hint app before status text after out = inl out.status_is
+ended (Bench n) app before status text after out = subst IsEnded (sym out.status_is) (ended_run (cause_in (run_steps (unhinted app) before)))
 
 -- an output is what is due for an application
 pub output_due : (command : Command) (app : App) (before : Places) (status : Status) (text : List ℕ) (after : Places)

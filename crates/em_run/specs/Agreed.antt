@@ -15,9 +15,10 @@ use Rattle.em_sched.specs.Image.{schedule_of}
 use Rattle.em_sched.specs.Reads.{AreReadsWhole}
 use Rattle.em_sched.specs.Traces.{AreFirstOf, Gives, IsRising, lines_in}
 use Rattle.em_run.specs.declared.commands.Command.{Command}
-use Rattle.em_run.specs.declared.commands.Command.TheVariants.{Run, Trial, Replay, List as ListCode, Bench}
+use Rattle.em_run.specs.declared.commands.Command.TheVariants.{Run, Trial, Replay, List as ListCode, Hint, Bench}
 use Rattle.em_run.specs.declared.status.Status.TheVariants.{Done}
 use Rattle.em_run.specs.Output.{IsReplayOutput}
+use Rattle.em_run.specs.Unhinted.{unhinted}
 use Rattle.em_run.specs.Runs.{parts_text, run_text}
 
 -- the commands that run an application on the kernel and write its trace
@@ -26,6 +27,7 @@ is_run Run = true
 is_run Trial = true
 is_run Replay = false
 is_run ListCode = false
+is_run Hint = false
 is_run (Bench n) = false
 
 -- a replay of the bundle with this schedule put behind it, with the ports that are handed in, writes these lines as its trace
@@ -34,11 +36,11 @@ pub record IsReplayed (bytes : List ℕ) (schedule : Schedule) (before : Places)
   pub stands : IsApplicationFor true (with_schedule bytes schedule) app
   pub ending : List ℕ
   pub after : Places
-  pub replays : IsReplayOutput app before Done (codes "%trace\n" ++ trace_text lines ++ (codes "%end\n" ++ ending)) after
+  pub replays : IsReplayOutput (unhinted app) before Done (codes "%trace\n" ++ trace_text lines ++ (codes "%end\n" ++ ending)) after
 
 -- the bytes stand for an application, and the text is a trace, a schedule and an end. The trace and the schedule are those of the
 -- application's run with these ports; the schedule has the first events of the application in their order, and its counts don't fall. And
--- the trace is that of the plain machine of the same application, with the same ports, under this schedule. Where the schedule is within the
+-- the trace is that of the plain machine of the unhinted source, with the same ports, under this schedule. Where the schedule is within the
 -- limits of one that is read, and the bundle with it within that of an input, its replay writes the same trace.
 pub record IsAgreed (bytes : List ℕ) (before : Places) (text : List ℕ) : Type 0 where
   pub app : App
@@ -47,11 +49,11 @@ pub record IsAgreed (bytes : List ℕ) (before : Places) (text : List ℕ) : Typ
   pub schedule : Schedule
   pub ending : List ℕ
   pub text_is : text ≡ parts_text lines schedule ending
-  pub run : lines ≡ lines_in (run_steps app before)
-  pub counted : schedule ≡ schedule_of app before
+  pub run : lines ≡ lines_in (run_steps (unhinted app) before)
+  pub counted : schedule ≡ schedule_of (unhinted app) before
   pub first : AreFirstOf app schedule
   pub rises : IsRising 0 schedule.events schedule.last
-  pub plain : Gives (plain_run app before schedule) lines
+  pub plain : Gives (plain_run (unhinted app) before schedule) lines
   pub replayed : schedule.last ≤ most_steps → length (with_schedule bytes schedule) ≤ input_limit → IsReplayed bytes schedule before lines
 
 -- the bytes stand for an application, the text is that of the application's run with these ports, and each read of this run that copied its
@@ -60,5 +62,5 @@ pub record IsAgreed (bytes : List ℕ) (before : Places) (text : List ℕ) : Typ
 pub record HasWholeReads (bytes : List ℕ) (before : Places) (text : List ℕ) : Type 0 where
   pub app : App
   pub stands : IsApplicationFor false bytes app
-  pub text_is : text ≡ run_text app before
-  pub reads : AreReadsWhole app before
+  pub text_is : text ≡ run_text (unhinted app) before
+  pub reads : AreReadsWhole (unhinted app) before

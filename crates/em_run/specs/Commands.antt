@@ -6,7 +6,7 @@ use Rattle.clap.specs.Words.{App as CommandLine, Rule, Text, first_of, fault_of,
 use Rattle.clap.specs.Simple.{on_top}
 use Rattle.clap.specs.declared.builder.action.ArgAction.TheVariants.{Set}
 use Rattle.em_run.specs.declared.commands.Command.{Command}
-use Rattle.em_run.specs.declared.commands.Command.TheVariants.{Run, Trial, Replay, List as ListCode, Bench}
+use Rattle.em_run.specs.declared.commands.Command.TheVariants.{Run, Trial, Replay, List as ListCode, Hint, Bench}
 
 -- ---- the program's command line
 
@@ -38,6 +38,7 @@ command_text Run = codes "run"
 command_text Trial = codes "trial"
 command_text Replay = codes "replay"
 command_text ListCode = codes "list"
+command_text Hint = codes "hint"
 command_text (Bench n) = codes "bench"
 
 -- the text spells a number of 32 bits in 1 to 10 decimal digits
@@ -55,6 +56,7 @@ IsNumberOf Run number = number ≡ None
 IsNumberOf Trial number = number ≡ None
 IsNumberOf Replay number = number ≡ None
 IsNumberOf ListCode number = number ≡ None
+IsNumberOf Hint number = number ≡ None
 
 -- the command line takes the words, COMMAND is the text of the command, and the number is its number
 pub record IsCommand (words : List Text) (command : Command) : Type 0 where

@@ -1,5 +1,6 @@
 pub mod Statuses
 pub mod Commands
+pub mod Unhinted
 pub mod Runs
 pub mod Output
 pub mod Texts

@@ -2,12 +2,14 @@
 -- project's own.
 use Rattle.std.specs.Prelude.{◌≡◌, ◌⊎◌, ℕ, ◌+◌, ◌≤◌, Bool, true, false, List, ◌++◌, length, Option, None, Some, codes}
 use Rattle.std.specs.Fmt.{decimal}
+use Rattle.std.specs.Str.Lines.{lines}
 use Rattle.em_base.specs.declared.apps.App.{App}
 use Rattle.em_base.specs.declared.events.Schedule.{Schedule}
 use Rattle.em_base.specs.declared.refusals.Refusal.{Refusal}
 use Rattle.em_io.specs.Bytes.{input_limit, Rose, then_left, and_then, IsAtEnd, Took}
 use Rattle.em_ports.specs.Ports.{Places}
 use Rattle.em_show.specs.Listing.{IsListing}
+use Rattle.em_hint.specs.Lines.{hinted_text}
 use Rattle.em_bundle.specs.Application.{IsApplicationFor, IsBundleRefusedFor}
 use Rattle.em_trace.specs.Schedules.{IsSchedule}
 use Rattle.em_gen.specs.Workload.{workload}
@@ -17,10 +19,11 @@ use Rattle.em_kernel.specs.declared.did.End.{End}
 use Rattle.em_kernel.specs.declared.did.End.TheVariants.{Horizon, Quiet, Lines, Lapped as LappedEnd}
 use Rattle.em_kernel.specs.Run.{run_steps}
 use Rattle.em_run.specs.declared.commands.Command.{Command}
-use Rattle.em_run.specs.declared.commands.Command.TheVariants.{Run, Trial, Replay, List as ListCode, Bench}
+use Rattle.em_run.specs.declared.commands.Command.TheVariants.{Run, Trial, Replay, List as ListCode, Hint, Bench}
 use Rattle.em_run.specs.declared.status.Status.{Status}
 use Rattle.em_run.specs.declared.status.Status.TheVariants.{Done, Usage, ReadFault, WriteFault, TooLong, Malformed, Lapped, Misfit, NoMemory}
 use Rattle.em_run.specs.Commands.{IsCommand, IsNoCommand}
+use Rattle.em_run.specs.Unhinted.{unhinted}
 use Rattle.em_run.specs.Runs.{ArePartWay, bench_text, cause_in, end_word, misfit_text, ports_after, replay_text, run_text}
 
 -- a source before a call and after it: what it has left, where it tells that, and its count of faults
@@ -47,6 +50,7 @@ AreBytesOf Run r bytes = ReadsAll r bytes
 AreBytesOf Trial r bytes = ReadsAll r bytes
 AreBytesOf Replay r bytes = ReadsAll r bytes
 AreBytesOf ListCode r bytes = ReadsAll r bytes
+AreBytesOf Hint r bytes = ReadsAll r bytes
 AreBytesOf (Bench n) r bytes = (bytes ≡ workload n) × (r.left_after ≡ r.left_before)
 
 -- the command is given these bytes: what the source has left, within the limit, or for a bench those of the workload
@@ -55,6 +59,7 @@ AreGiven Run left bytes = (left ≡ Some bytes) × (length bytes ≤ input_limit
 AreGiven Trial left bytes = (left ≡ Some bytes) × (length bytes ≤ input_limit)
 AreGiven Replay left bytes = (left ≡ Some bytes) × (length bytes ≤ input_limit)
 AreGiven ListCode left bytes = (left ≡ Some bytes) × (length bytes ≤ input_limit)
+AreGiven Hint left bytes = (left ≡ Some bytes) × (length bytes ≤ input_limit)
 AreGiven (Bench n) left bytes = bytes ≡ workload n
 
 -- the command reads the source
@@ -63,6 +68,7 @@ is_reader Run = true
 is_reader Trial = true
 is_reader Replay = true
 is_reader ListCode = true
+is_reader Hint = true
 is_reader (Bench n) = false
 
 -- no more bytes were read than the limit
@@ -99,6 +105,12 @@ pub record IsListOutput (app : App) (before : Places) (status : Status) (text : 
   pub text_is : IsListing app.image.words text
   pub ports_stay : after ≡ before
 
+-- the output of a hinted text: the text of the code, with the hints that are found. Nothing is run
+pub record IsHintOutput (app : App) (before : Places) (status : Status) (text : List ℕ) (after : Places) : Type 0 where
+  pub status_is : status ≡ Done
+  pub text_is : text ≡ hinted_text app.hints app.image.waits (app.code_line + 1) (lines app.code_text)
+  pub ports_stay : after ≡ before
+
 -- the output of a bench: a line of what the run comes to, and the ports of its last state
 pub record IsBenchOutput (n : ℕ) (app : App) (before : Places) (status : Status) (text : List ℕ) (after : Places) : Type 0 where
   pub status_is : status ≡ status_of (cause_in (run_steps app before))
@@ -118,13 +130,15 @@ pub record IsReplayOutput (app : App) (before : Places) (status : Status) (text 
   pub replays : IsReplay (plain_run app before schedule) status text
   pub ports_are : after ≡ (state_of (plain_run app before schedule)).ports
 
--- the output of a command on an application, with the ports that are handed in: its status, its text, and the ports afterwards
+-- the output of a command on an application, with the ports that are handed in: its status, its text, and the ports afterwards. What is run
+-- is the unhinted source
 abbrev pub IsOutput : Command → App → Places → Status → List ℕ → Places → Type 0
-IsOutput Run app before status text after = IsRunOutput app before status text after
-IsOutput Trial app before status text after = IsRunOutput app before status text after
-IsOutput Replay app before status text after = IsReplayOutput app before status text after
+IsOutput Run app before status text after = IsRunOutput (unhinted app) before status text after
+IsOutput Trial app before status text after = IsRunOutput (unhinted app) before status text after
+IsOutput Replay app before status text after = IsReplayOutput (unhinted app) before status text after
 IsOutput ListCode app before status text after = IsListOutput app before status text after
-IsOutput (Bench n) app before status text after = IsBenchOutput n app before status text after
+IsOutput Hint app before status text after = IsHintOutput app before status text after
+IsOutput (Bench n) app before status text after = IsBenchOutput n (unhinted app) before status text after
 
 -- the command whose bundle has a schedule
 abbrev pub is_replay : Command → Bool
@@ -132,6 +146,7 @@ is_replay Replay = true
 is_replay Run = false
 is_replay Trial = false
 is_replay ListCode = false
+is_replay Hint = false
 is_replay (Bench n) = false
 
 -- the bytes stand for an application, and this is the output of the command on it
@@ -150,11 +165,12 @@ IsReplayPart app before after = (schedule : Schedule) × (app.schedule ≡ Some 
 
 -- the ports are those after a part of what the command runs of an application
 abbrev pub IsPartOf : Command → App → Places → Places → Type 0
-IsPartOf Run app before after = ArePartWay app before after
-IsPartOf Trial app before after = ArePartWay app before after
-IsPartOf Replay app before after = IsReplayPart app before after
+IsPartOf Run app before after = ArePartWay (unhinted app) before after
+IsPartOf Trial app before after = ArePartWay (unhinted app) before after
+IsPartOf Replay app before after = IsReplayPart (unhinted app) before after
 IsPartOf ListCode app before after = ⊥
-IsPartOf (Bench n) app before after = ArePartWay app before after
+IsPartOf Hint app before after = ⊥
+IsPartOf (Bench n) app before after = ArePartWay (unhinted app) before after
 
 -- the command runs the application that the bytes stand for, and the ports are those after a part of that
 pub record IsPartWay (command : Command) (bytes : List ℕ) (before after : Places) : Type 0 where

@@ -1,8 +1,10 @@
 //! What is due: the status and the text, by the words, by what is read and by the ports that are handed in.
-ghost use Rattle.std.specs.Prelude.{◌≡◌, ◌≤◌, ℕ, [], codes, length, map, string_bytes, true};
+ghost use Rattle.std.specs.Prelude.{◌≡◌, ◌<◌, ◌≤◌, ◌+◌, ◌^◌, ℕ, codes, length, map, string_bytes, true};
+ghost use Rattle.std.specs.Str.Lines.{lines};
 ghost use Rattle.em_admit.specs.Depth.{AreShallow};
 ghost use Rattle.em_base.specs.Apps.{IsApp};
 ghost use Rattle.em_io.specs.Bytes.{input_limit};
+ghost use Rattle.em_hint.specs.Lines.{HaveWaitLines};
 ghost use Rattle.em_run.specs.Commands.{IsCommand, IsNoCommand};
 ghost use Rattle.em_gen.specs.Workload.{workload};
 ghost use Rattle.em_run.specs.declared.commands.Command.{Command as CommandValue};
@@ -145,20 +147,21 @@ fn answer_to(alloc: Global, command: Command, bytes: &[u8], ports: &mut Ports) -
         Due result.status (text_bytes result.text) (seen ports.new) }
 {
     match load(alloc, bytes, command.has_schedule()) {
-        Ok(app) => app_answer(alloc, command, &app, ports),
+        Ok(app) => app_answer(alloc, command, app, ports),
         Err(Fail::Refused(refusal)) => refusal_answer(alloc, refusal),
         Err(Fail::NoMemory) => out_of_memory(),
     }
 }
 
 /// What is due for a command and an application.
-fn app_answer(alloc: Global, command: Command, app: &App, ports: &mut Ports) -> Answer
-    requires app { IsApp app.now }
-    requires shallow { AreShallow app.now.table }
-    requires hints { app.now.hints.hints ≡ [] }
-    requires schedule { is_replay command ≡ true → HasSchedule app.now }
+fn app_answer(alloc: Global, command: Command, app: App, ports: &mut Ports) -> Answer
+    requires app { IsApp app }
+    requires shallow { AreShallow app.table }
+    requires few { app.code_line + length (lines app.code_text) < 2 ^ 31 }
+    requires waits { HaveWaitLines (app.code_line + 1) (lines app.code_text) app.image.waits }
+    requires schedule { is_replay command ≡ true → HasSchedule app }
     ensures { let seen = ⟦<Ports as Seen>⟧.seen_as in
-        let Due = IsAnswerFor command app.now (seen ports.old) in
+        let Due = IsAnswerFor command app (seen ports.old) in
         Due result.status (text_bytes result.text) (seen ports.new) }
 {
     match output_of(alloc, command, app, ports) {

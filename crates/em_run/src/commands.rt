@@ -25,6 +25,8 @@ pub enum Command {
     Replay,
     /// `list`: write the listing of its code.
     List,
+    /// `hint`: write the text of its code with the hints that are found.
+    Hint,
     /// `bench` with a number: run the workload of that number, and write a line of what the run came to.
     Bench(u32),
 }
@@ -123,6 +125,7 @@ fn command_named(name: &str) -> Option<Command>
         "trial" => Some(Command::Trial),
         "replay" => Some(Command::Replay),
         "list" => Some(Command::List),
+        "hint" => Some(Command::Hint),
         _ => None,
     }
 }
@@ -140,8 +143,8 @@ fn bench_of(name: &str, text: &str) -> Option<Command>
     }
 }
 
-/// The command that the words are: COMMAND is `run`, `trial`, `replay` or `list` and no `--number` is given, or it is `bench` and
-/// `--number` has 1 to 10 digits of a number of 32 bits. Other words are none. `NoMemory` where memory to read the words could
+/// The command that the words are: COMMAND is `run`, `trial`, `replay`, `list` or `hint` and no `--number` is given, or it is `bench`
+/// and `--number` has 1 to 10 digits of a number of 32 bits. Other words are none. `NoMemory` where memory to read the words could
 /// not be had.
 pub fn command_of(alloc: Global, words: &[String]) -> Result<Option<Command>, NoMemory>
     ensures some { IfOk result (λ found. IfSome found (IsCommand (map string_bytes words.now))) }

@@ -1,22 +1,25 @@
 //! What a command writes of an application, and how it ends: the parts of a run, or the listing of the code.
-ghost use Rattle.std.specs.Prelude.{◌≡◌, ◌⊎◌, ◌++◌, [], codes, length, true, IfOk, OnOk, Some};
+ghost use Rattle.std.specs.Prelude.{◌≡◌, ◌⊎◌, ◌++◌, ◌+◌, ◌<◌, ◌^◌, [], codes, length, true, IfOk, OnOk, Some};
 ghost use Rattle.std.specs.Prelude.{string_bytes};
+ghost use Rattle.std.specs.Str.Lines.{lines};
 ghost use Rattle.em_admit.specs.Depth.{AreShallow};
 ghost use Rattle.em_base.specs.Apps.{IsApp};
 ghost use Rattle.em_show.specs.Listing.{IsListing};
 ghost use Rattle.em_trace.specs.Printed.{trace_text};
 ghost use Rattle.em_trace.specs.Schedules.{IsSchedule, schedule_text};
+ghost use Rattle.em_hint.specs.Lines.{HaveWaitLines, hinted_text};
 ghost use Rattle.em_plain.specs.Answers.{ArePartWay as ArePlainPart};
 ghost use Rattle.em_plain.specs.Runs.{plain_run, state_of};
 ghost use Rattle.em_run.specs.Output.{IsBenchOutput, IsOutput, IsPartOf, IsReplay, IsReplayOutput, IsReplayPart};
 ghost use Rattle.em_run.specs.Output.{IsRunOutput, HasSchedule, is_replay, status_by};
+ghost use Rattle.em_run.specs.Unhinted as spec_of;
 ghost use Rattle.em_run.specs.Runs as spec;
 ghost use Rattle.em_run.specs.Runs.{ArePartWay, cause_text, end_text, end_word, parts_text};
 
 use crate::commands::Command;
 use crate::running::{Run, run_app};
 use crate::status::Status;
-use em_base::{App, NoMemory, Schedule};
+use em_base::{App, HintMap, Items, NoMemory, Schedule};
 use em_kernel::End;
 use em_plain::{PlainFail, PlainRun};
 use em_ports::{Ports, Seen};
@@ -34,30 +37,63 @@ pub struct Output {
     pub text: String,
 }
 
-/// The output of a command on an application, with these ports handed in. `NoMemory` where memory runs out; the ports are then
-/// as they were, or where the command runs the application those after some number of its steps.
+/// The output of a command on an application, with these ports handed in. What is run is the unhinted source. `NoMemory` where
+/// memory runs out; the ports are then as they were, or where the command runs the application those after some number of its
+/// steps.
 pub fn output_of(
     alloc: Global,
     command: Command,
-    app: &App,
+    app: App,
     ports: &mut Ports,
 ) -> Result<Output, NoMemory>
-    requires app { IsApp app.now }
-    requires shallow { AreShallow app.now.table }
-    requires hints { app.now.hints.hints ≡ [] }
-    requires schedule { is_replay command ≡ true → HasSchedule app.now }
+    requires app { IsApp app }
+    requires shallow { AreShallow app.table }
+    requires few { app.code_line + length (lines app.code_text) < 2 ^ 31 }
+    requires waits { HaveWaitLines (app.code_line + 1) (lines app.code_text) app.image.waits }
+    requires schedule { is_replay command ≡ true → HasSchedule app }
     ensures output { let seen = ⟦<Ports as Seen>⟧.seen_as in
-        let Is = IsOutput command app.now (seen ports.old) in IfOk result (λ output.
+        let Is = IsOutput command app (seen ports.old) in IfOk result (λ output.
         Is output.status (string_bytes output.text) (seen ports.new)) }
     ensures left { let seen = ⟦<Ports as Seen>⟧.seen_as in (seen ports.new ≡ seen ports.old)
-        ⊎ IsPartOf command app.now (seen ports.old) (seen ports.new) }
+        ⊎ IsPartOf command app (seen ports.old) (seen ports.new) }
 {
     match command {
-        Command::Run | Command::Trial => run_output(alloc, app, ports),
-        Command::Replay => replay_output(alloc, app, ports),
-        Command::List => list_output(alloc, app),
-        Command::Bench(n) => bench_output(alloc, n, app, ports),
+        Command::Run | Command::Trial => run_output(alloc, &unhinted(alloc, app), ports),
+        Command::Replay => replay_output(alloc, &unhinted(alloc, app), ports),
+        Command::List => list_output(alloc, &app),
+        Command::Hint => hint_output(alloc, &app),
+        Command::Bench(n) => bench_output(alloc, n, &unhinted(alloc, app), ports),
     }
+}
+
+/// The unhinted source of an application: the same application with no hint anywhere.
+fn unhinted(alloc: Global, mut app: App) -> App
+    ensures { result ≡ spec_of.unhinted app }
+{
+    app.hints = HintMap {
+        hints: Items::new(alloc),
+    };
+    app
+}
+
+/// The output of a hinted text.
+fn hint_output(alloc: Global, app: &App) -> Result<Output, NoMemory>
+    requires app { IsApp app.now }
+    requires few { app.now.code_line + length (lines app.now.code_text) < 2 ^ 31 }
+    requires waits { let texts = lines app.now.code_text in
+        HaveWaitLines (app.now.code_line + 1) texts app.now.image.waits }
+    ensures status { IfOk result (λ output. output.status ≡ Status.Done) }
+    ensures text { let texts = lines app.now.code_text in
+        let first = app.now.code_line + 1 in
+        let hinted = hinted_text app.now.hints app.now.image.waits first texts in
+        IfOk result (λ output. string_bytes output.text ≡ hinted) }
+{
+    let first = app.code_line + 1;
+    let text = em_hint::hinted_text(alloc, app.code_text.as_str(), first, &app.image, &app.hints)?;
+    Ok(Output {
+        status: Status::Done,
+        text,
+    })
 }
 
 /// The output of a listing.

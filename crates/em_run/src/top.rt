@@ -21,12 +21,13 @@ use em_ports::{Ports, Seen};
 use em_sched::{same_trace, valid_schedule, whole_reads};
 use std::alloc::Global;
 
-/// All that the program does. `words` are the words after its name: the command `run`, `trial`, `replay` or `list`, or `bench`
-/// with `--number` and its number of 32 bits, as the command line reads them. All but `bench` read the source to its end and
-/// take what they read for a bundle. `run` and `trial` run the application on the kernel, with the ports that are handed in,
+/// All that the program does. `words` are the words after its name: the command `run`, `trial`, `replay`, `list` or `hint`, or
+/// `bench` with `--number` and its number of 32 bits, as the command line reads them. All but `bench` read the source to its end
+/// and take what they read for a bundle. `run` and `trial` run the application on the kernel, with the ports that are handed in,
 /// and write the trace, the schedule and the end; `replay` runs it on the plain machine under the schedule that its bundle has,
-/// and writes the trace and the end; `list` writes the listing of its code. `bench` reads nothing and runs the workload of its
-/// number on the kernel, and writes one line of what the run came to. A port must be plugged in at each place.
+/// and writes the trace and the end; `list` writes the listing of its code, and `hint` its text with the hints that are found,
+/// which no run uses yet. `bench` reads nothing and runs the workload of its number on the kernel, and writes one line of what
+/// the run came to. A port must be plugged in at each place.
 ///
 /// The words are looked at first, then the source, then the length of what was read, then what it stands for; the first that
 /// is wrong decides the status, and then nothing is run and the ports stay as they were. Each status but `WriteFault` has one
@@ -106,9 +107,9 @@ pub fn emeralds<S: Source, K: Sink>(
         × IsOutputOf command bytes (seen ports.old) Status.Misfit text (seen ports.new)
         × Wrote (K.written out.old) (K.written out.new) text }
 
-    // What a run or a trial writes is a trace, a schedule and an end. The trace is the one of the plain machine, of the same
-    // application and from the same ports, under the schedule that is written; and a replay of the bundle with that schedule
-    // writes it again.
+    // What a run or a trial writes is a trace, a schedule and an end. The trace is the one of the plain machine, of the unhinted
+    // source and from the same ports, under the schedule that is written; and a replay of the bundle with that schedule writes
+    // it again.
     ensures agrees { (result ≡ Status.Done) ⊎ (result ≡ Status.Lapped)
         → let read = reading (S.left src.old) (S.left src.new) (S.faults src.old) (S.faults src.new) in
         let seen = ⟦<Ports as Seen>⟧.seen_as in

@@ -1,23 +1,18 @@
 -- The promises that tasks make: a task whose job begins after a `waitjob` with a hint promises to take that semaphore next. This project's
 -- own.
-use Rattle.std.specs.Prelude.{ℕ, ◌==◌, Bool, not, ◌&&◌, List, [], ◌∷◌, slice_index_or, slice_set, Option, None, Some, if◌then◌else◌}
-use Rattle.std.specs.Map.{lookup}
+use Rattle.std.specs.Prelude.{ℕ, Bool, not, ◌&&◌, List, [], ◌∷◌, slice_index_or, slice_set, Option, None, Some, if◌then◌else◌}
 use Rattle.em_base.specs.declared.apps.App.{App}
-use Rattle.em_base.specs.declared.apps.HintMap.{HintMap}
 use Rattle.em_base.specs.declared.ids.SemId.{SemId}
 use Rattle.em_base.specs.declared.events.Event.{Event}
 use Rattle.em_base.specs.declared.events.Event.TheVariants.{Release, Unplug}
 use Rattle.em_base.specs.declared.jobs.Job.{Job}
 use Rattle.em_base.specs.declared.tables.Table.{Table}
+use Rattle.em_base.specs.Hints.{hint_at}
 use Rattle.em_base.specs.Selection.{is_none}
 use Rattle.em_gate.specs.State.{Task, Plain, task_at}
 use Rattle.em_gate.specs.Tasks.{is_full}
 use Rattle.em_gate.specs.Calls.{uses}
 use Rattle.em_gate.specs.Outcome.{Outcome, Works, Falls, Refuses, Ends, Gets, Blocks, Frees, Puts, Publishes, Fetches, Signals, Leaves}
-
--- the hint of the `waitjob` at an address
-abbrev pub hint_at : HintMap → ℕ → Option SemId
-hint_at map address = lookup (λ other. other == address) map.hints
 
 -- a hint, where the task t uses the semaphore
 abbrev pub used : Table → ℕ → Option SemId → Option SemId

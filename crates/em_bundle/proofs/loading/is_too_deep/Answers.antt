@@ -1,6 +1,6 @@
-use Rattle.std.proofs.Common.{◌≡◌, ◌<◌, ◌≤◌, length, ap, subst, arith}
-use Rattle.em_admit.specs.Depth.{depth, most_values}
-use Rattle.em_bundle.proofs.DeepBuffers.{AreShallowTo, one_more}
+use Rattle.std.proofs.Common.{◌<◌, ◌≤◌, length, ap, subst, arith}
+use Rattle.em_admit.specs.Depth.{most_values}
+use Rattle.em_bundle.proofs.DeepBuffers.{one_more}
 use Rattle.em_bundle.proofs.loading.is_too_deep.Goals as goal
 
 pub returns-then-depth-gt-MOST_VALUES-clause-deep : goal.returns-then-depth-gt-MOST_VALUES-clause-deep

@@ -1,4 +1,4 @@
-use Rattle.em_bundle.proofs.Loaded.{complete, refuses, scheduled, schedules}
+use Rattle.em_bundle.proofs.Loaded.{complete, refuses, scheduled, schedules, waits_found}
 use Rattle.em_bundle.proofs.loading.load.Goals as goal
 
 pub returns-clause-complete : goal.returns-clause-complete
@@ -16,3 +16,7 @@ returns-clause-scheduled c = scheduled c.args.replay c.args.bytes.now c.load_byt
 
 pub returns-clause-schedule : goal.returns-clause-schedule
 returns-clause-schedule c = schedules c.args.replay c.args.bytes.now c.load_bytes.result c.load_bytes.ensures.app
+
+pub returns-clause-waits : goal.returns-clause-waits
+returns-clause-waits c =
+    waits_found c.args.replay c.args.bytes.now c.load_bytes.result (c.sound_application.ensures.waits c.args.replay c.args.bytes.now) c.load_bytes.ensures.app

@@ -1,0 +1,12 @@
+pub mod Law
+pub mod Back
+pub mod OfWord
+pub mod LearnedOfWord
+pub mod Looks
+pub mod Steps
+pub mod Below
+pub mod Agreed
+pub mod Taken
+pub mod TakenInstr
+pub mod TakenBranch
+pub mod Follows
